@@ -1,0 +1,12 @@
+pub mod Integers
+pub mod Ring
+pub mod Inequalities
+pub mod Vectors
+pub mod Squares
+pub mod Excess
+pub mod Walk
+pub mod Opposite
+pub mod Sets
+pub mod Dependent
+pub mod Expressions
+pub mod Moved

@@ -1,0 +1,14 @@
+pub mod Vectors
+pub mod Padded
+pub mod Forms
+pub mod Order
+pub mod Simplices
+pub mod Facets
+pub mod Triangulations
+pub mod Walls
+pub mod Flips
+pub mod Matrices
+pub mod Principal
+pub mod Reached
+pub mod Limits
+pub mod Cones

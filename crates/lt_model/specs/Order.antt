@@ -1,0 +1,13 @@
+-- The order of lists of numbers: lexicographic, number by number.
+use Rattle.std.specs.Prelude.{ℤ, List}
+use Rattle.std.specs.declared.cmp.Ordering.{Ordering}
+use Rattle.std.specs.Ordering.{int_cmp}
+use Rattle.std.specs.Cmp.Lexicographic.{slice_cmp}
+
+-- lists of numbers compared number by number: points, forms, normals
+abbrev pub number_list_cmp : List ℤ → List ℤ → Ordering
+number_list_cmp = slice_cmp int_cmp
+
+-- simplices compared vertex by vertex
+abbrev pub simplex_cmp : List (List ℤ) → List (List ℤ) → Ordering
+simplex_cmp = slice_cmp number_list_cmp
