@@ -1,0 +1,15 @@
+pub mod Uniform
+pub mod WalkEnds
+pub mod Walking
+pub mod Summed
+pub mod Whole
+pub mod LocalWalk
+pub mod Places
+pub mod Reading
+pub mod Paths
+pub mod Closed
+pub mod Neighbours
+pub mod Unique
+pub mod Primitive
+pub mod Products
+pub mod PrincipalNormals

@@ -1,0 +1,3 @@
+pub mod Paving
+pub mod Laws
+pub mod Principal
