@@ -13,3 +13,10 @@ pub mod Unique
 pub mod Primitive
 pub mod Products
 pub mod PrincipalNormals
+pub mod Classes
+pub mod Plane
+pub mod PlanePairs
+pub mod Exchanges
+pub mod PlaneFlips
+pub mod PlaneMatrices
+pub mod FirstLaws

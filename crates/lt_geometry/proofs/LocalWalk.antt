@@ -84,7 +84,7 @@ same_heights d q vs m x b b' c s h k =
     both : (x y : ℤ) → x ≤ℤ y → y ≤ℤ x → x ≡ y
     both x y h k = omega (arith, ints)
 
-zeros-plus : (d : ℕ) (p : List ℤ) → length p ≡ d → plus (zeros d) p ≡ p
+pub zeros-plus : (d : ℕ) (p : List ℤ) → length p ≡ d → plus (zeros d) p ≡ p
 zeros-plus zero [] l = refl
 zeros-plus zero (a ∷ p) l = absurd (omega arith)
 zeros-plus (suc d) [] l = absurd (omega arith)

@@ -3,7 +3,7 @@ use Rattle.lt_model.specs.Vectors.{scale, dot, unit, ones}
 use Rattle.lt_model.specs.Forms.{cross, numbers_of_form}
 use Rattle.lt_model.specs.Triangulations.{IsDelaunay}
 use Rattle.lt_model.specs.Walls.{IsRegulator, IsFacet, AreRegulators}
-use Rattle.lt_model.specs.Principal.{IsPrincipal, principal_rows}
+use Rattle.lt_model.specs.Principal.{IsPrincipal, principal_numbers}
 
 -- the numbers of the normal with N(Q) = - a_ij, for different i and j
 abbrev pub pair_normal : ℕ → ℕ → ℕ → List ℤ
@@ -18,7 +18,7 @@ IsPrincipalNormal d n = ((i : ℕ) × (j : ℕ) × (i < j) × (j < d) × (n ≡ 
 
 -- the principal triangulation is the Delaunay triangulation of the principal form
 abbrev pub PrincipalIsDelaunay : Type 0
-PrincipalIsDelaunay = (d : ℕ) (t : List (List (List ℤ))) → 1 ≤ d → IsPrincipal d t → IsDelaunay d (principal_rows d d) t
+PrincipalIsDelaunay = (d : ℕ) (t : List (List (List ℤ))) → 1 ≤ d → IsPrincipal d t → IsDelaunay d (principal_numbers d) t
 
 -- its regulators are the normals that are stated, and all of them are facets
 abbrev pub PrincipalRegulators : Type 0
