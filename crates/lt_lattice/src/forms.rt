@@ -2,9 +2,12 @@
 
 ghost use Rattle.std.specs.Prelude.{◌≡◌, ◌≤◌, ◌^◌, ℤ, List, length};
 ghost use Rattle.std.specs.List.{All};
+ghost use Rattle.lt_model.specs.Forms as form;
 ghost use Rattle.lt_model.specs.Forms.{numbers_of_form};
-ghost use Rattle.lt_lattice.specs.Ranges.{IsBelow, IsFormLength};
+ghost use Rattle.lt_lattice.specs.Ranges.{IsWithin, IsBelow, IsFormLength};
 
+use crate::numbers::{collected, inner_product, variables};
+use crate::points::Point;
 use arrayvec::ArrayVec;
 use std::marker::Model;
 
@@ -35,16 +38,22 @@ impl Form {
         requires below { All (IsBelow (2 ^ 92)) numbers.now }
         ensures { result ≡ numbers.now }
     {
-        let mut all: ArrayVec<i128, 21> = ArrayVec::new();
-        for number in numbers {
-            all.push(*number);
+        Form {
+            numbers: collected(numbers),
         }
-        Form { numbers: all }
+    }
+
+    /// The same form.
+    pub fn copy(&self) -> Form
+        ensures { result ≡ self.now }
+    {
+        Form::of(self.dimension(), self.numbers())
     }
 
     /// The numbers `a_11 a_12 .. a_1d a_22 .. a_dd`.
     pub fn numbers(&self) -> &[i128]
         ensures value { result.now ≡ self.now }
+        ensures few { length self.now ≤ 21 }
         ensures below { All (IsBelow (2 ^ 92)) self.now }
     {
         self.numbers.as_slice()
@@ -56,12 +65,30 @@ impl Form {
         ensures low { 2 ≤ result }
         ensures high { result ≤ 6 }
     {
-        match self.numbers.len() {
-            3 => 2,
-            6 => 3,
-            10 => 4,
-            15 => 5,
-            _ => 6,
+        variables(self.numbers.len())
+    }
+}
+
+/// The products `x_i x_j` with `i <= j`, in the order of a form's numbers.
+fn products(x: &[i32]) -> ArrayVec<i128, 21>
+    requires few { length x.now ≤ 6 }
+    requires within { All (IsWithin (2 ^ 20)) x.now }
+    ensures { result.items ≡ form.squares x.now }
+{
+    let mut all: ArrayVec<i128, 21> = ArrayVec::new();
+    for i in 0..x.len() {
+        for j in i..x.len() {
+            all.push(x[i] as i128 * x[j] as i128);
         }
     }
+    all
+}
+
+/// The value Q[x] of the form at the point. Each number of the form is below 2^80 in absolute value.
+pub fn value(q: &Form, x: &Point) -> i128
+    requires same { length q.now ≡ numbers_of_form (length x.now) }
+    requires below { All (IsBelow (2 ^ 80)) q.now }
+    ensures { result ≡ form.value q.now x.now }
+{
+    inner_product(q.numbers(), products(x.coords()).as_slice())
 }

@@ -2,7 +2,12 @@
 #![tactic(auto)]
 
 mod forms;
+
+mod normals;
+mod numbers;
 mod points;
 
-pub use forms::Form;
+pub use forms::{value, Form};
+
+pub use normals::{pair, Normal};
 pub use points::Point;
