@@ -1,0 +1,44 @@
+-- The class of a set of points is unique; a class is that of its own vertices in any order.
+use Rattle.std.proofs.Common.{◌≡◌, ℕ, zero, suc, ℤ, pos, negsuc, ◌<◌, refl, ap, ap₂, arith, sym, ◌∙◌, subst, List, [], ◌∷◌, length, get_or, ◌↔◌}
+use Rattle.std.specs.List.{Contains}
+use Rattle.lt_model.specs.Order.{number_list_cmp}
+use Rattle.lt_model.specs.Vectors.{plus, scale, zeros}
+use Rattle.lt_model.specs.Simplices.{AllOfDimension, IsSimplex, IsClass, IsClassOf, translate}
+use Rattle.lt_model.proofs.Opposite.{length-zeros}
+use Rattle.lt_model.proofs.Sets.{same_members, number_list_cmp_total}
+use Rattle.lt_model.proofs.Moved.{translate-back}
+use Rattle.lt_geometry.proofs.Whole.{ascending_translate}
+use Rattle.lt_geometry.proofs.LocalWalk.{zeros-plus}
+use Rattle.lt_geometry.proofs.Closed.{translate-zeros}
+
+first_of_translate : (p : List ℤ) (vs : List (List ℤ)) → 0 < length vs → get_or (translate p vs) 0 [] ≡ plus (get_or vs 0 []) p
+first_of_translate p [] h = absurd (omega arith)
+first_of_translate p (v ∷ vs) h = refl
+
+-- a set of points has one class
+pub one_class : (d : ℕ) (ps s s' : List (List ℤ)) → IsClassOf d ps s → IsClassOf d ps s' → s ≡ s'
+one_class d ps s s' h k =
+    let ch = h.«class» in
+    let ck = k.«class» in
+    let up : translate h.shift s ≡ translate k.shift s' =
+    same_members number_list_cmp number_list_cmp_total (translate h.shift s) (translate k.shift s') (ascending_translate d h.shift s h.dimension ch.simplex.points ch.ascending) (ascending_translate d k.shift s' k.dimension ck.simplex.points ck.ascending)
+    (λ x. (λ c. (k.same x).0 ((h.same x).1 c), λ c. (h.same x).0 ((k.same x).1 c)))
+    in
+    let first : (r : List (List ℤ)) (p : List ℤ) → IsClass d r → length p ≡ d → get_or (translate p r) 0 [] ≡ p = λ r p c l. first_of_translate p r (omega (arith, c.simplex.count)) ∙ ap (λ (v : List ℤ). plus v p) c.first ∙ zeros-plus d p l in
+    let shifts : h.shift ≡ k.shift = sym (first s h.shift ch h.dimension) ∙ ap (λ (l : List (List ℤ)). get_or l 0 []) up ∙ first s' k.shift ck k.dimension in
+    sym (translate-back d s h.shift ch.simplex.points h.dimension) ∙ ap₂ (λ (p : List ℤ) (r : List (List ℤ)). translate (scale (negsuc 0) p) r) shifts up ∙ translate-back d s' k.shift ck.simplex.points k.dimension
+
+-- points that are the translate of a class, in any order
+pub class_of_same : (d : ℕ) (ps s : List (List ℤ)) (p : List ℤ) → length p ≡ d → IsClass d s → ((x : List ℤ) → Contains ps x ↔ Contains (translate p s) x) → IsClassOf d ps s
+class_of_same d ps s p l c h = record { shift = p; dimension = l; «class» = c; same = h }
+
+-- the class of its own vertices
+pub own_class : (d : ℕ) (s : List (List ℤ)) → IsClass d s → IsClassOf d s s
+own_class d s c =
+    let e : translate (zeros d) s ≡ s = translate-zeros d s c.simplex.points in
+    record {
+      shift = zeros d;
+      dimension = length-zeros d;
+      «class» = c;
+      same = λ x. (subst (λ (l : List (List ℤ)). Contains l x) (sym e), subst (λ (l : List (List ℤ)). Contains l x) e);
+    }

@@ -1,0 +1,5 @@
+pub mod Paving
+pub mod Laws
+pub mod FirstLaws
+pub mod Principal
+pub mod Plane

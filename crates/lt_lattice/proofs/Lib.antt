@@ -1,0 +1,4 @@
+pub mod Coordinates
+pub mod Dots
+pub mod Lengths
+pub mod Products

@@ -1,0 +1,7 @@
+use Rattle.std.proofs.Common.{take, ◌^◌}
+use Rattle.std.specs.List.{All}
+use Rattle.lt_lattice.specs.Ranges.{IsWithin}
+use Rattle.lt_lattice.proofs.points.are_coordinates.Given as goal
+
+abbrev pub invariant-loop-number : goal.invariant-loop-number
+invariant-loop-number l = All (IsWithin (2 ^ 20)) (take l.number-index l.numbers)
