@@ -1,0 +1,4 @@
+pub mod Rows
+pub mod Ways
+pub mod AllOrders
+pub mod Ascending
