@@ -1,0 +1,9 @@
+use Rattle.std.proofs.Common.{ℤ, pos, [], ◌∷◌, subst, arith}
+use Rattle.std.specs.Int.{w128}
+use Rattle.std.proofs.lemmas.Int.{to_z_pos}
+use Rattle.lt_io.specs.Bytes.{Wrote}
+use Rattle.lt_lines.specs.Lines.{line}
+use Rattle.lt_lines.proofs.lines.write_count.Goals as goal
+
+pub returns-clause-bytes : goal.returns-clause-bytes
+returns-clause-bytes g c = subst (λ (z : ℤ). Wrote (g.K.Sink.held c.args.sink.now) (g.K.Sink.held c.write_line.new.sink) c.write_line.result (line c.args.word.now (z ∷ []))) (to_z_pos w128 c.args.count (omega arith)) c.write_line.ensures.bytes

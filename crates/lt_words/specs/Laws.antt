@@ -1,0 +1,16 @@
+-- Laws on the words of commands.
+use Rattle.std.specs.Prelude.{◌≡◌, ℕ, List}
+use Rattle.lt_words.specs.declared.words.Command.{Command}
+use Rattle.lt_words.specs.Grammar.{InRange, words_of, IsAccepted, FaultAt}
+
+-- words have a fault at one place alone
+abbrev pub EveryFaultHasOnePlace : Type 0
+EveryFaultHasOnePlace = (ws : List (List ℕ)) (p q : ℕ) → FaultAt ws p → FaultAt ws q → p ≡ q
+
+-- the words of a command have none
+abbrev pub NoCommandHasAFault : Type 0
+NoCommandHasAFault = (ws : List (List ℕ)) (p : ℕ) → IsAccepted ws → FaultAt ws p → ⊥
+
+-- two commands have different words
+abbrev pub EveryCommandHasItsWords : Type 0
+EveryCommandHasItsWords = (c c' : Command) → InRange c → InRange c' → words_of c ≡ words_of c' → c ≡ c'

@@ -1,0 +1,6 @@
+//! The words of the command line, read without memory.
+#![tactic(auto)]
+
+mod words;
+
+pub use words::{Command, WordsError, faults_are_exact, read_words};

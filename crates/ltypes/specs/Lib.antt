@@ -1,0 +1,4 @@
+pub mod Texts
+pub mod Outputs
+pub mod Answers
+pub mod Laws

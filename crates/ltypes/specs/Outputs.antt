@@ -1,0 +1,14 @@
+-- The whole output of each command.
+use Rattle.std.specs.Prelude.{◌≡◌, ℕ, ℤ, List}
+use Rattle.lt_model.specs.Principal.{IsPrincipal, principal_numbers}
+use Rattle.lt_words.specs.declared.words.Command.{Command}
+use Rattle.lt_words.specs.declared.words.Command.TheVariants.{Principal}
+use Rattle.ltypes.specs.Texts.{type_text}
+
+-- the principal form and the principal triangulation of dimension d
+abbrev pub IsPrincipalText : ℕ → List ℕ → Type 0
+IsPrincipalText d text = (t : List (List (List ℤ))) × IsPrincipal d t × (text ≡ type_text d (principal_numbers d) t)
+
+-- the output of a command
+abbrev pub IsOutput : Command → List ℕ → Type 0
+IsOutput (Principal d) text = IsPrincipalText d text

@@ -1,0 +1,57 @@
+//! Delaunay triangulations of the integer points, one type after another.
+#![tactic(auto)]
+
+mod command;
+mod gate;
+mod printed;
+mod status;
+
+pub use command::{ltypes, outputs_are_exact, principal_command};
+pub use gate::{Gate, OpenGate};
+use lt_io::{StdSink, StdSource};
+pub use status::{Cause, Status};
+use std::env;
+use std::io::ErrorKind;
+use std::process::ExitCode;
+
+const MEMORY: u8 = 4;
+
+const NO_WORDS: u8 = 15;
+
+fn main(rt: HostRuntime) -> ExitCode {
+    let mut args = match env::args(&rt) {
+        Ok(args) => args,
+        Err(e) if e.kind() == ErrorKind::OutOfMemory => return ExitCode::from(MEMORY),
+        Err(_) => return ExitCode::from(NO_WORDS),
+    };
+    // The program's name.
+    let _ = args.next();
+    let mut texts: Vec<String> = Vec::new(rt.alloc());
+    for arg in args {
+        if texts.push(arg).is_err() {
+            return ExitCode::from(MEMORY);
+        }
+    }
+    let mut words: Vec<&str> = Vec::new(rt.alloc());
+    for text in &texts {
+        if words.push(text.as_str()).is_err() {
+            return ExitCode::from(MEMORY);
+        }
+    }
+    let mut source = StdSource::new(rt.stdin());
+    let mut out = StdSink::new(rt.stdout());
+    let mut err = StdSink::new(rt.stderr());
+    let status = ltypes(
+        &rt,
+        rt.alloc(),
+        &words,
+        &mut source,
+        &mut out,
+        &mut err,
+        &OpenGate,
+    );
+    ExitCode::from(status.code)
+}
+
+#[cfg(test)]
+mod tests;
