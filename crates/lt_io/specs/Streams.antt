@@ -1,5 +1,5 @@
 -- What the sources and sinks in memory are seen as, and what their calls do.
-use Rattle.std.specs.Prelude.{◌≡◌, ◌⊎◌, ◌↔◌, ℕ, ◌+◌, ◌-◌, ◌<◌, List, ◌++◌, length, take, drop, min, Result, IsErr, IfOk, OnErr}
+use Rattle.std.specs.Prelude.{◌≡◌, ◌⊎◌, ◌↔◌, ℕ, ◌-◌, ◌<◌, List, ◌++◌, length, take, drop, min, Result, IsErr, IfOk, OnErr}
 use Rattle.std.specs.List.{Contains}
 use Rattle.lt_io.specs.Causes.{one_more}
 

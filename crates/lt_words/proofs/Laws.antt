@@ -1,11 +1,11 @@
 -- Words have a fault at one place at most, and are one command at most.
-use Rattle.std.proofs.Common.{◌≡◌, ℕ, ◌+◌, ◌<◌, ◌≤◌, List, [], ◌∷◌, ◌++◌, length, take, drop, min, refl, sym, ap, ◌∙◌, arith, append_assoc, ◌⊎◌, inl, inr}
+use Rattle.std.proofs.Common.{◌≡◌, ℕ, ◌+◌, ◌<◌, ◌≤◌, List, ◌++◌, take, drop, sym, ap, ◌∙◌, arith, append_assoc}
 use Rattle.std.proofs.lemmas.List.{take-append-drop, take-take}
 use Rattle.std.proofs.lemmas.Fmt.{decimal_injective}
 use Rattle.std.specs.Fmt.{decimal}
 use Rattle.lt_words.specs.declared.words.Command.{Command}
 use Rattle.lt_words.specs.declared.words.Command.TheVariants.{Principal}
-use Rattle.lt_words.specs.Grammar.{InRange, words_of, IsAccepted, Begins, FaultAt}
+use Rattle.lt_words.specs.Grammar.{InRange, words_of, Begins, FaultAt}
 
 -- fewer words of a front begin a command too
 begins_before : (ws : List (List ℕ)) (p q : ℕ) → p ≤ q → Begins (take q ws) → Begins (take p ws)

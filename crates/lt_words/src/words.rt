@@ -78,5 +78,4 @@ pub fn faults_are_exact()
     ensures one_place { EveryFaultHasOnePlace }
     ensures none { NoCommandHasAFault }
     ensures one_command { EveryCommandHasItsWords }
-{
-}
+{}

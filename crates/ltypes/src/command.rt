@@ -45,12 +45,7 @@ pub fn principal_command<K: Sink, E: Sink>(alloc: Global, d: u8, out: &mut K, er
 }
 
 /// The work of a command.
-fn carry_out<K: Sink, E: Sink>(
-    alloc: Global,
-    command: Command,
-    out: &mut K,
-    err: &mut E,
-) -> Status
+fn carry_out<K: Sink, E: Sink>(alloc: Global, command: Command, out: &mut K, err: &mut E) -> Status
     requires { InRange command }
     ensures code { result.code ≡ code_of result.cause }
     ensures answer { Answers (IsOutput command) (K.held out.old) (K.held out.new) (K.faults out.old) (K.faults out.new) result.cause }
@@ -102,5 +97,4 @@ pub fn ltypes<R: Threads + Wait + Sync, S: Source, K: Sink, E: Sink, G: Gate>(
 /// A law, with nothing to run: each command has one output at most, so the clauses above pin each byte.
 pub fn outputs_are_exact()
     ensures { EveryCommandHasOneOutput }
-{
-}
+{}

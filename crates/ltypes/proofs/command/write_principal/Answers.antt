@@ -1,4 +1,4 @@
-use Rattle.std.proofs.Common.{◌≡◌, ◌∙◌}
+use Rattle.std.proofs.Common.{◌∙◌}
 use Rattle.lt_principal.specs.Paths.{points_of}
 use Rattle.ltypes.specs.Texts.{type_text}
 use Rattle.ltypes.proofs.Written.{same_text}

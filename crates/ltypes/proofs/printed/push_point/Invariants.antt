@@ -1,4 +1,4 @@
-use Rattle.std.proofs.Common.{◌≡◌, ◌≤◌, ◌++◌, ◌+◌, take, length}
+use Rattle.std.proofs.Common.{◌≡◌, ◌++◌, ◌+◌, take, length}
 use Rattle.ltypes.proofs.printed.push_point.Given as goal
 
 abbrev pub invariant-loop-coord : goal.invariant-loop-coord
