@@ -1,9 +1,9 @@
 -- The class of a set of points is unique; a class is that of its own vertices in any order.
-use Rattle.std.proofs.Common.{◌≡◌, ℕ, zero, suc, ℤ, pos, negsuc, ◌<◌, refl, ap, ap₂, arith, sym, ◌∙◌, subst, List, [], ◌∷◌, length, get_or, ◌↔◌}
+use Rattle.std.proofs.Common.{◌≡◌, ℕ, ℤ, negsuc, ◌<◌, refl, ap, ap₂, arith, sym, ◌∙◌, subst, List, [], ◌∷◌, length, get_or, ◌↔◌}
 use Rattle.std.specs.List.{Contains}
 use Rattle.lt_model.specs.Order.{number_list_cmp}
 use Rattle.lt_model.specs.Vectors.{plus, scale, zeros}
-use Rattle.lt_model.specs.Simplices.{AllOfDimension, IsSimplex, IsClass, IsClassOf, translate}
+use Rattle.lt_model.specs.Simplices.{IsClass, IsClassOf, translate}
 use Rattle.lt_model.proofs.Opposite.{length-zeros}
 use Rattle.lt_model.proofs.Sets.{same_members, number_list_cmp_total}
 use Rattle.lt_model.proofs.Moved.{translate-back}

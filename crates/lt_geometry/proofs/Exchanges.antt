@@ -1,11 +1,11 @@
 -- Flips of the plane's principal triangulation, given what is known of its facets.
-use Rattle.std.proofs.Common.{◌≡◌, ℕ, zero, suc, ℤ, pos, negsuc, ◌+ℤ◌, ◌*ℤ◌, ◌<ℤ◌, ◌<◌, neg_ℤ, refl, ap, arith, sym, ◌∙◌, subst, List, [], ◌∷◌, length, get_or, ◌⊎◌, inl, inr, ◌↔◌}
+use Rattle.std.proofs.Common.{◌≡◌, ℕ, zero, suc, ℤ, pos, negsuc, ◌+ℤ◌, ◌*ℤ◌, ◌<ℤ◌, ◌<◌, refl, arith, sym, subst, List, [], ◌∷◌, length, ◌⊎◌, inl, inr}
 use Rattle.std.proofs.lemmas.Int.{ints}
 use Rattle.std.specs.List.{Contains}
 use Rattle.std.specs.List.Sorted.{IsStrictlySortedBy}
 use Rattle.std.specs.declared.cmp.Ordering.TheVariants.{Less}
 use Rattle.lt_model.specs.Order.{number_list_cmp, simplex_cmp}
-use Rattle.lt_model.specs.Vectors.{plus, scale, zeros, total, combine}
+use Rattle.lt_model.specs.Vectors.{scale, zeros, combine}
 use Rattle.lt_model.specs.Simplices.{AreIndependent, IsClass, IsClassOf, translate}
 use Rattle.lt_model.specs.Facets.{without, number_at}
 use Rattle.lt_model.specs.Walls.{IsPair}
@@ -15,7 +15,7 @@ use Rattle.lt_model.proofs.Walk.{number_at-scale}
 use Rattle.lt_geometry.specs.Plane.{point, left_class, right_class, plane}
 use Rattle.lt_geometry.proofs.Classes.{one_class}
 use Rattle.lt_geometry.proofs.Plane.{plane_cases}
-use Rattle.lt_geometry.proofs.PlanePairs.{IsKnown, known_pair, IsThat, that}
+use Rattle.lt_geometry.proofs.PlanePairs.{IsKnown, known_pair, that}
 
 -- two vectors of the plane that no numbers but zeros combine to 0
 abbrev pub AreApart : List ℤ → List ℤ → Type 0
@@ -143,9 +143,9 @@ across : (n : List ℤ) (flipped : List (List (List ℤ))) (s : List (List ℤ))
 across n flipped s at w c b h = elim (at h.facet h.place) [
   | is_other v a m k o ↦ absurd (o (that s h.facet v a m k n w c b h refl).normal)
   | is_turned v a k o ↦
-    let e = that s h.facet v a n k n w c b h refl in
-    let r : LiesAcross flipped s v c (scale c a) = scaled_across flipped s v a c h.expression.positive o in
-    subst (λ (x : List ℤ). LiesAcross flipped s w c x) (sym e.multiple) (subst (λ (x : List ℤ). LiesAcross flipped s x c (scale c a)) (sym e.vertex) r)
+      let e = that s h.facet v a n k n w c b h refl in
+      let r : LiesAcross flipped s v c (scale c a) = scaled_across flipped s v a c h.expression.positive o in
+      subst (λ (x : List ℤ). LiesAcross flipped s w c x) (sym e.multiple) (subst (λ (x : List ℤ). LiesAcross flipped s x c (scale c a)) (sym e.vertex) r)
 ]
 
 -- a known facet and one of its four points give an exchanged class

@@ -1,17 +1,17 @@
-use Rattle.std.proofs.Common.{◌≡◌, ◌≢◌, ℕ, zero, suc, ℤ, pos, negsuc, ◌+ℤ◌, ◌-ℤ◌, ◌*ℤ◌, ◌<ℤ◌, ◌≤ℤ◌, ◌<◌, ◌≤◌, ◌+◌, ◌⊎◌, ◌↔◌, neg_ℤ, nat_abs, refl, ap, arith, sym, ◌∙◌, subst, List, [], ◌∷◌, length, map, get_or, inl, inr}
+use Rattle.std.proofs.Common.{◌≡◌, ℕ, zero, suc, ℤ, pos, negsuc, ◌+ℤ◌, ◌-ℤ◌, ◌*ℤ◌, ◌<ℤ◌, ◌≤ℤ◌, ◌<◌, ◌+◌, nat_abs, refl, ap, arith, sym, ◌∙◌, subst, List, [], ◌∷◌, length, map, get_or}
 use Rattle.std.proofs.lemmas.Int.{ints, by_lt_z}
 use Rattle.std.specs.List.{AllByRecursion, Contains}
 use Rattle.std.specs.List.Sorted.{IsStrictlySortedBy}
-use Rattle.lt_model.proofs.Integers.{spread, triple_is, mul_assoc_z}
+use Rattle.lt_model.proofs.Integers.{spread}
 use Rattle.lt_model.proofs.Vectors.{dot-plus, dot-scale}
 use Rattle.lt_model.proofs.Squares.{length-scale, length-plus}
 use Rattle.lt_model.proofs.Excess.{dot-combine, same_from_dots, scale-dot, length-translate, excess-moved}
 use Rattle.lt_model.proofs.Walk.{length-combine, IsWeighted, mul-positive}
 use Rattle.lt_model.proofs.Expressions.{one_expression, total-scale}
-use Rattle.lt_model.proofs.Moved.{translate-back, plus-back, simplex_moved, translate_all, Contains-translate}
+use Rattle.lt_model.proofs.Moved.{translate-back, simplex_moved, translate_all, Contains-translate}
 use Rattle.lt_geometry.proofs.Uniform.{uniform, HasUniform}
 use Rattle.lt_model.proofs.Opposite.{length-zeros}
-use Rattle.lt_geometry.proofs.WalkEnds.{HasCommon, common, over_translate, scale-one, expression_moved, mul-not_negative}
+use Rattle.lt_geometry.proofs.WalkEnds.{HasCommon, common, over_translate, expression_moved}
 use Rattle.lt_geometry.specs.Paving.{IsPaving}
 use Rattle.lt_geometry.proofs.Walking.{IsAt, Holds, height, walk}
 use Rattle.lt_geometry.proofs.Summed.{HasEach, HasSummed, summed}

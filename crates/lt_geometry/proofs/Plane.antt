@@ -1,18 +1,16 @@
 -- The worked example of dimension 2: its classes, regulators and walls.
-use Rattle.std.proofs.Common.{◌≡◌, ◌≢◌, ℕ, zero, suc, ℤ, pos, negsuc, ◌+ℤ◌, ◌*ℤ◌, ◌<ℤ◌, ◌<◌, refl, ap, arith, sym, ◌∙◌, subst, List, [], ◌∷◌, length, get_or, ◌⊎◌, inl, inr, ◌↔◌}
-use Rattle.std.proofs.lemmas.Int.{ints}
+use Rattle.std.proofs.Common.{◌≡◌, ◌≢◌, ℕ, zero, suc, ℤ, pos, negsuc, ◌<ℤ◌, ◌<◌, refl, ap, arith, sym, ◌∙◌, subst, List, [], ◌∷◌, length, ◌⊎◌, inl, inr, ◌↔◌}
 use Rattle.std.specs.List.{Contains}
 use Rattle.std.specs.List.Sorted.{IsStrictlySortedBy}
 use Rattle.std.specs.declared.cmp.Ordering.TheVariants.{Less}
 use Rattle.lt_model.specs.Order.{simplex_cmp}
-use Rattle.lt_model.specs.Vectors.{plus, scale, dot}
+use Rattle.lt_model.specs.Vectors.{dot}
 use Rattle.lt_model.specs.Simplices.{IsClass}
 use Rattle.lt_model.specs.Triangulations.{IsDelaunay}
 use Rattle.lt_model.specs.Walls.{IsRegulator, IsWallForm}
 use Rattle.lt_model.specs.Principal.{IsOrder, IsPrincipal, principal_class}
-use Rattle.lt_model.proofs.Sets.{Contains-head, Contains-tail, Contains-cases, Contains-none}
-use Rattle.lt_geometry.specs.Principal.{IsPrincipalNormal, pair_normal, own_normal}
-use Rattle.lt_geometry.specs.Plane.{point, numbers, left_class, right_class, plane, diagonal_normal, upright_normal, level_normal, PlaneIsDelaunay, PlaneRegulators, PlaneWalls}
+use Rattle.lt_geometry.specs.Principal.{IsPrincipalNormal}
+use Rattle.lt_geometry.specs.Plane.{numbers, left_class, right_class, plane, diagonal_normal, upright_normal, level_normal, PlaneIsDelaunay, PlaneRegulators, PlaneWalls}
 use Rattle.lt_geometry.proofs.Paths.{principal_is_class}
 use Rattle.lt_geometry.proofs.Neighbours.{principal_delaunay}
 use Rattle.lt_geometry.proofs.PrincipalNormals.{principal_regulators}

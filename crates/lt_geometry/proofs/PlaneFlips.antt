@@ -1,14 +1,12 @@
 -- The worked example of dimension 2: the flips across the three walls, with all classes of the exchanged points.
-use Rattle.std.proofs.Common.{◌≡◌, ℕ, zero, suc, ℤ, pos, negsuc, ◌+ℤ◌, ◌*ℤ◌, ◌<◌, refl, ap, arith, sym, ◌∙◌, List, [], ◌∷◌, get_or, inl, inr}
+use Rattle.std.proofs.Common.{◌≡◌, ℕ, zero, suc, pos, negsuc, ◌+ℤ◌, ◌*ℤ◌, ◌<◌, refl, arith, [], ◌∷◌}
 use Rattle.std.proofs.lemmas.Int.{ints}
-use Rattle.std.specs.List.{Contains}
-use Rattle.lt_model.specs.Vectors.{combine, zeros}
 use Rattle.lt_model.specs.Simplices.{IsClass}
-use Rattle.lt_model.specs.Flips.{IsExchanged, IsFlipOf}
+use Rattle.lt_model.specs.Flips.{IsFlipOf}
 use Rattle.lt_geometry.specs.Plane.{point, left_class, right_class, plane, diagonal_normal, upright_normal, level_normal, across_diagonal, across_upright, across_level, PlaneFlips}
-use Rattle.lt_geometry.proofs.Plane.{left_is_class, right_is_class, has_left, has_right, two_ascending}
+use Rattle.lt_geometry.proofs.Plane.{left_is_class, right_is_class, two_ascending}
 use Rattle.lt_geometry.proofs.PlanePairs.{left_first, left_second, left_third, right_first, right_second, right_third}
-use Rattle.lt_geometry.proofs.Exchanges.{AreApart, three_class, HasOutcome, HasOutcomes, kept, made, arranged, at0, at1, at2, AtFacet, other, turned, exchanged, flip}
+use Rattle.lt_geometry.proofs.Exchanges.{AreApart, three_class, HasOutcomes, kept, made, arranged, at0, at1, at2, AtFacet, other, turned, exchanged, flip}
 
 pub diagonal_lower : IsClass 2 (point (pos 0) (pos 0) ∷ point (pos 0) (pos 1) ∷ point (pos 1) (pos 0) ∷ [])
 diagonal_lower = three_class (pos 0) (pos 1) (pos 1) (pos 0) refl refl refl apart

@@ -1,9 +1,9 @@
 -- The worked example of dimension 2: the matrices that carry the triangulations across the walls back.
-use Rattle.std.proofs.Common.{◌≡◌, ℕ, zero, suc, ℤ, pos, negsuc, refl, ap, arith, sym, subst, List, [], ◌∷◌, length, map, inl, inr}
+use Rattle.std.proofs.Common.{◌≡◌, zero, suc, ℤ, pos, negsuc, refl, arith, sym, subst, List, [], ◌∷◌, length, map, inl, inr}
 use Rattle.std.specs.List.{Contains}
 use Rattle.lt_model.specs.Simplices.{IsClass, IsClassOf}
-use Rattle.lt_model.specs.Matrices.{apply, times, identity, IsSquare, IsInverse, Carries}
-use Rattle.lt_geometry.specs.Plane.{point, left_class, right_class, plane, across_diagonal, across_upright, across_level, PlaneMatrices}
+use Rattle.lt_model.specs.Matrices.{apply, IsSquare, IsInverse, Carries}
+use Rattle.lt_geometry.specs.Plane.{point, left_class, right_class, plane, PlaneMatrices}
 use Rattle.lt_geometry.proofs.Classes.{one_class, own_class}
 use Rattle.lt_geometry.proofs.Plane.{left_is_class, right_is_class, plane_cases, has_left, has_right}
 

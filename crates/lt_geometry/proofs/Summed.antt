@@ -1,20 +1,19 @@
-use Rattle.std.proofs.Common.{◌≡◌, ◌≢◌, ℕ, zero, suc, ℤ, pos, negsuc, ◌+ℤ◌, ◌-ℤ◌, ◌*ℤ◌, ◌<ℤ◌, ◌≤ℤ◌, ◌<◌, ◌+◌, neg_ℤ, refl, ap, arith, sym, ◌∙◌, subst, List, [], ◌∷◌, length, map, get_or, inl, inr}
+use Rattle.std.proofs.Common.{◌≡◌, ℕ, ℤ, pos, ◌+ℤ◌, ◌-ℤ◌, ◌*ℤ◌, ◌<ℤ◌, ◌≤ℤ◌, refl, ap, arith, sym, ◌∙◌, List, [], ◌∷◌, length, map, inl, inr}
 use Rattle.std.proofs.lemmas.Int.{ints}
 use Rattle.std.specs.List.{AllByRecursion, Contains}
-use Rattle.lt_model.proofs.Integers.{spread, triple_is, mul_assoc_z, mul_add_z}
-use Rattle.std.proofs.Math.IntN.{*ℤ_comm, *ℤ-zero, zero-*ℤ}
-use Rattle.lt_model.proofs.Vectors.{dot-plus, dot-scale, dot_comm}
+use Rattle.lt_model.proofs.Integers.{spread, triple_is}
+use Rattle.std.proofs.Math.IntN.{*ℤ-zero}
+use Rattle.lt_model.proofs.Vectors.{dot-scale}
 use Rattle.lt_model.proofs.Squares.{length-scale, length-plus}
-use Rattle.lt_model.proofs.Excess.{dot-combine, same_from_dots, plus-dot, scale-dot}
-use Rattle.lt_model.proofs.Walk.{length-combine, IsWeighted}
+use Rattle.lt_model.proofs.Excess.{dot-combine, plus-dot, scale-dot}
 use Rattle.lt_geometry.proofs.WalkEnds.{mul-not_negative}
 use Rattle.lt_model.proofs.Dependent.{zero_or_not, mul-not_zero}
 use Rattle.lt_model.proofs.Opposite.{length-zeros, zeros-dot}
 use Rattle.lt_geometry.proofs.Uniform.{total-zeros}
 use Rattle.lt_model.proofs.Expressions.{total-plus, total-scale}
-use Rattle.lt_model.specs.Vectors.{plus, scale, dot, total, combine, zeros}
+use Rattle.lt_model.specs.Vectors.{plus, scale, dot, total, zeros}
 use Rattle.lt_model.specs.Forms.{value}
-use Rattle.lt_model.specs.Simplices.{AllOfDimension, IsSimplex, IsExpression, IsStrictlyEmpty, excess}
+use Rattle.lt_model.specs.Simplices.{AllOfDimension, IsExpression, IsStrictlyEmpty, excess}
 
 -- a point with its numbers over vs, all with the scale c
 pub record HasEach (d : ℕ) (vs : List (List ℤ)) (c : ℤ) : Type 0 where

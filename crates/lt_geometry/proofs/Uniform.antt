@@ -1,18 +1,15 @@
-use Rattle.std.proofs.Common.{◌≡◌, ◌≢◌, ℕ, zero, suc, ℤ, pos, negsuc, ◌+ℤ◌, ◌-ℤ◌, ◌*ℤ◌, ◌<ℤ◌, ◌≤ℤ◌, ◌<◌, ◌+◌, neg_ℤ, refl, ap, arith, sym, ◌∙◌, subst, List, [], ◌∷◌, ◌++◌, length, map, get_or, inl, inr}
+use Rattle.std.proofs.Common.{◌≡◌, ℕ, zero, suc, ℤ, pos, ◌+ℤ◌, ◌*ℤ◌, ◌<ℤ◌, refl, ap, arith, sym, ◌∙◌, List, [], ◌∷◌, length, map}
 use Rattle.std.proofs.lemmas.Int.{ints}
-use Rattle.std.specs.List.{AllByRecursion, Contains}
 use Rattle.lt_model.proofs.Integers.{spread, triple_is, mul_assoc_z, mul_add_z}
-use Rattle.std.proofs.Math.IntN.{*ℤ_comm, *ℤ-zero, zero-*ℤ}
-use Rattle.lt_model.proofs.Vectors.{dot-plus, dot-scale, dot_comm}
+use Rattle.std.proofs.Math.IntN.{*ℤ_comm, *ℤ-zero}
+use Rattle.lt_model.proofs.Vectors.{dot-scale, dot_comm}
 use Rattle.lt_model.proofs.Squares.{length-scale, length-plus}
 use Rattle.lt_model.proofs.Excess.{dot-combine, same_from_dots, dot-nil, plus-dot, scale-dot}
-use Rattle.lt_model.proofs.Walk.{length-combine, length-map, IsWeighted, mul-positive}
-use Rattle.lt_model.proofs.Opposite.{length-zeros, zeros-dot, length-unit, unit-dot}
+use Rattle.lt_model.proofs.Walk.{length-combine, IsWeighted, mul-positive}
+use Rattle.lt_model.proofs.Opposite.{length-zeros, zeros-dot}
 use Rattle.lt_model.proofs.Expressions.{has_weighted, HasWeighted, total-plus, total-scale}
-use Rattle.lt_model.specs.Vectors.{plus, minus, scale, dot, total, combine, zeros, unit}
-use Rattle.lt_model.specs.Forms.{value}
-use Rattle.lt_model.specs.Simplices.{AllOfDimension, IsSimplex, IsExpression, IsStrictlyEmpty, excess, translate}
-use Rattle.lt_model.specs.Facets.{number_at}
+use Rattle.lt_model.specs.Vectors.{plus, scale, dot, total, combine, zeros}
+use Rattle.lt_model.specs.Simplices.{AllOfDimension, IsSimplex}
 use Rattle.lt_model.specs.Matrices.{identity}
 
 -- b are the numbers of a combination of directions, times c

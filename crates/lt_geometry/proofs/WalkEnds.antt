@@ -1,22 +1,21 @@
-use Rattle.std.proofs.Common.{◌≡◌, ◌≢◌, ℕ, zero, suc, ℤ, pos, negsuc, ◌+ℤ◌, ◌-ℤ◌, ◌*ℤ◌, ◌<ℤ◌, ◌≤ℤ◌, ◌<◌, ◌+◌, ◌⊎◌, neg_ℤ, refl, ap, arith, sym, ◌∙◌, subst, List, [], ◌∷◌, ◌++◌, length, map, get_or, inl, inr}
+use Rattle.std.proofs.Common.{◌≡◌, ◌≢◌, ℕ, zero, suc, ℤ, pos, negsuc, ◌-ℤ◌, ◌*ℤ◌, ◌<ℤ◌, ◌≤ℤ◌, ◌<◌, ◌⊎◌, refl, ap, arith, sym, ◌∙◌, subst, List, [], ◌∷◌, length, map, get_or, inl, inr}
 use Rattle.std.proofs.lemmas.Int.{ints, by_lt_z}
 use Rattle.std.specs.List.{AllByRecursion, Contains}
-use Rattle.lt_model.proofs.Integers.{spread, triple_is, mul_assoc_z, mul_add_z}
-use Rattle.std.proofs.Math.IntN.{*ℤ_comm, *ℤ-zero, zero-*ℤ}
-use Rattle.lt_model.proofs.Vectors.{dot-plus, dot-scale, dot_comm}
+use Rattle.lt_model.proofs.Integers.{spread, mul_assoc_z}
+use Rattle.std.proofs.Math.IntN.{*ℤ_comm}
+use Rattle.lt_model.proofs.Vectors.{dot-plus, dot-scale}
 use Rattle.lt_model.proofs.Squares.{length-scale, length-plus}
-use Rattle.lt_model.proofs.Excess.{dot-combine, same_from_dots, dot-nil, plus-dot, scale-dot, length-translate, excess-moved}
-use Rattle.lt_model.proofs.Walk.{length-combine, length-map, IsWeighted, IsStep, mul-positive, next_coefficients, next_expression, value_rises, number_at-scale, number_at-map, without-map}
+use Rattle.lt_model.proofs.Excess.{dot-combine, same_from_dots, scale-dot}
+use Rattle.lt_model.proofs.Walk.{length-combine, length-map, IsWeighted, mul-positive, number_at-scale, number_at-map}
 use Rattle.lt_model.proofs.Opposite.{unit-dot, length-unit}
 use Rattle.lt_model.proofs.Dependent.{zero_or_not}
 use Rattle.lt_model.proofs.Expressions.{one_expression, total-scale, number_at-zeros}
-use Rattle.lt_model.proofs.Moved.{weighted_moved, simplex_moved, translate_all}
+use Rattle.lt_model.proofs.Moved.{weighted_moved}
 use Rattle.lt_geometry.proofs.Uniform.{uniform, HasUniform, total-zeros}
 use Rattle.lt_model.proofs.Sets.{Contains-head, Contains-tail, Contains-cases, Contains-none}
-use Rattle.lt_model.specs.Vectors.{plus, minus, scale, dot, total, combine, zeros, unit}
-use Rattle.lt_model.specs.Forms.{value}
-use Rattle.lt_model.specs.Simplices.{AllOfDimension, IsSimplex, IsClass, IsExpression, IsStrictlyEmpty, excess, translate}
-use Rattle.lt_model.specs.Facets.{number_at, without, IsBeyond, IsClosed, IsNeighbour}
+use Rattle.lt_model.specs.Vectors.{plus, scale, dot, total, combine, unit}
+use Rattle.lt_model.specs.Simplices.{IsSimplex, IsExpression, IsStrictlyEmpty, excess, translate}
+use Rattle.lt_model.specs.Facets.{number_at}
 
 -- numbers that are k times as large
 pub weighted_scaled : (d : ℕ) (vs : List (List ℤ)) (m : ℤ) (x b : List ℤ) (c k : ℤ) → IsSimplex d vs → length x ≡ d → pos 0 <ℤ k → IsWeighted vs m x c b → IsWeighted vs m x (k *ℤ c) (scale k b)

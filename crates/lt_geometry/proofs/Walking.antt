@@ -1,18 +1,17 @@
-use Rattle.std.proofs.Common.{◌≡◌, ◌≢◌, ℕ, zero, suc, ℤ, pos, negsuc, ◌+ℤ◌, ◌-ℤ◌, ◌*ℤ◌, ◌<ℤ◌, ◌≤ℤ◌, ◌<◌, ◌+◌, ◌⊎◌, neg_ℤ, refl, ap, arith, sym, ◌∙◌, subst, List, [], ◌∷◌, length, map, get_or, inl, inr}
+use Rattle.std.proofs.Common.{◌≡◌, ℕ, zero, suc, ℤ, pos, ◌+ℤ◌, ◌*ℤ◌, ◌<ℤ◌, ◌≤ℤ◌, ◌<◌, neg_ℤ, refl, ap, arith, sym, ◌∙◌, subst, List, [], ◌∷◌, length, map, get_or, inl, inr}
 use Rattle.std.proofs.lemmas.Int.{ints}
 use Rattle.std.specs.List.{AllByRecursion, Contains}
-use Rattle.lt_model.proofs.Integers.{spread, triple_is, mul_assoc_z}
-use Rattle.lt_model.proofs.Vectors.{plus_assoc, dot-scale}
+use Rattle.lt_model.proofs.Vectors.{plus_assoc}
 use Rattle.lt_model.proofs.Squares.{length-plus}
 use Rattle.lt_model.proofs.Excess.{length-translate, excess-moved, scale-dot}
-use Rattle.lt_model.proofs.Walk.{IsWeighted, IsStep, next_coefficients, next_expression, value_rises, mul-positive}
+use Rattle.lt_model.proofs.Walk.{IsWeighted, IsStep, next_coefficients, next_expression, value_rises}
 use Rattle.lt_model.proofs.Expressions.{one_expression}
 use Rattle.lt_model.proofs.Moved.{simplex_moved, translate_all}
 use Rattle.lt_geometry.proofs.WalkEnds.{HasCommon, over_translate, negative_or_none, less_from_multiples, expression_moved, positive_excess}
 use Rattle.lt_model.specs.Vectors.{plus, scale, dot}
 use Rattle.lt_model.specs.Forms.{value}
-use Rattle.lt_model.specs.Simplices.{AllOfDimension, IsSimplex, IsClass, IsExpression, IsStrictlyEmpty, excess, translate}
-use Rattle.lt_model.specs.Facets.{number_at, without, IsBeyond, IsClosed, IsNeighbour}
+use Rattle.lt_model.specs.Simplices.{AllOfDimension, IsSimplex, excess, translate}
+use Rattle.lt_model.specs.Facets.{number_at, without, IsNeighbour}
 pub use Rattle.lt_geometry.specs.Paving.{IsPaving}
 
 -- a member, moved, with the numbers of x / m over it

@@ -1,25 +1,15 @@
-use Rattle.std.proofs.Common.{◌≡◌, ◌≢◌, ℕ, zero, suc, ℤ, pos, negsuc, ◌+ℤ◌, ◌-ℤ◌, ◌*ℤ◌, ◌<ℤ◌, ◌≤ℤ◌, ◌<◌, ◌≤◌, ◌+◌, ◌⊎◌, ◌↔◌, neg_ℤ, nat_abs, refl, ap, arith, sym, ◌∙◌, subst, List, [], ◌∷◌, length, map, get_or, inl, inr}
+use Rattle.std.proofs.Common.{◌≡◌, ℕ, ℤ, ◌+ℤ◌, ◌<ℤ◌, ◌≤◌, refl, ap, arith, sym, ◌∙◌, subst, List, [], ◌∷◌, length, inl, inr}
 use Rattle.std.proofs.lemmas.Int.{ints}
 use Rattle.std.specs.List.{AllByRecursion, Contains}
 use Rattle.std.specs.List.Sorted.{IsStrictlySortedBy}
 use Rattle.std.specs.declared.cmp.Ordering.{Ordering}
 use Rattle.std.specs.declared.cmp.Ordering.TheVariants.{Less, Equal, Greater}
-use Rattle.std.specs.Ordering.{MatchOrdering, int_cmp, ordering_then}
+use Rattle.std.specs.Ordering.{MatchOrdering, int_cmp}
 use Rattle.std.specs.Cmp.{IsTotalOrder, int_cmp_is, int_ranks}
-use Rattle.lt_model.proofs.Integers.{spread, triple_is, mul_assoc_z}
-use Rattle.lt_model.proofs.Vectors.{dot-scale}
-use Rattle.lt_model.proofs.Squares.{length-scale, length-plus}
-use Rattle.lt_model.proofs.Excess.{dot-combine, same_from_dots, scale-dot, length-translate}
-use Rattle.lt_model.proofs.Walk.{length-combine, IsWeighted, plus-nil}
-use Rattle.lt_geometry.proofs.WalkEnds.{HasCommon, common, over_translate, scale-one}
-use Rattle.lt_geometry.specs.Paving.{IsPaving}
-use Rattle.lt_geometry.proofs.Walking.{IsAt, Holds, height, walk}
-use Rattle.lt_geometry.proofs.Summed.{HasEach, HasSummed, summed}
-use Rattle.lt_model.proofs.Sets.{Contains-head, Contains-tail, Contains-cases, Contains-none, each_holds, never_below_itself, number_list_cmp_total}
-use Rattle.lt_model.specs.Order.{number_list_cmp, simplex_cmp}
-use Rattle.lt_model.specs.Vectors.{plus, scale, dot, total, combine, zeros}
-use Rattle.lt_model.specs.Forms.{value}
-use Rattle.lt_model.specs.Simplices.{AllOfDimension, IsSimplex, IsClass, IsExpression, IsStrictlyEmpty, excess, translate}
+use Rattle.lt_model.proofs.Sets.{Contains-head, Contains-tail, Contains-cases, Contains-none, each_holds, never_below_itself}
+use Rattle.lt_model.specs.Order.{number_list_cmp}
+use Rattle.lt_model.specs.Vectors.{plus}
+use Rattle.lt_model.specs.Simplices.{AllOfDimension, translate}
 
 -- ---- the order of points is that of their translates
 

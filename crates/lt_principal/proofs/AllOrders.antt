@@ -1,16 +1,14 @@
 -- The ways from 0 are exactly the paths of the orders.
-use Rattle.std.proofs.Common.{◌≡◌, ◌≢◌, ℕ, zero, suc, ◌+◌, ◌<◌, ◌≤◌, ℤ, pos, negsuc, ◌+ℤ◌, refl, ap, ap₂, arith, sym, ◌∙◌, subst, List, [], ◌∷◌, ◌++◌, map, length, ◌⊎◌, inl, inr}
+use Rattle.std.proofs.Common.{◌≡◌, ◌≢◌, ℕ, zero, suc, ◌<◌, ◌≤◌, ℤ, pos, negsuc, ◌+ℤ◌, refl, ap, arith, sym, ◌∙◌, subst, List, [], ◌∷◌, map, length, ◌⊎◌, inl, inr}
 use Rattle.std.proofs.lemmas.Int.{ints}
-use Rattle.std.proofs.lemmas.Bool.{cases_lt}
 use Rattle.std.proofs.lemmas.List.Elements.{Contains-append_left, Contains-append_right, Contains-append_cases}
 use Rattle.std.specs.List.{Contains}
-use Rattle.lt_model.specs.Vectors.{plus, zeros, unit}
+use Rattle.lt_model.specs.Vectors.{plus, unit}
 use Rattle.lt_model.specs.Facets.{without, number_at}
 use Rattle.lt_model.specs.Principal.{IsOrder, path_from}
 use Rattle.lt_model.proofs.Walk.{length-without}
-use Rattle.lt_model.proofs.Opposite.{length-zeros}
 use Rattle.lt_model.proofs.Sets.{Contains-head, Contains-tail, Contains-cases, Contains-none}
-use Rattle.lt_geometry.proofs.Places.{AreDifferent, IsAt, find, place_below, contains_at, left_over, was_there, either_there}
+use Rattle.lt_geometry.proofs.Places.{AreDifferent, IsAt, find, place_below, contains_at, was_there}
 use Rattle.lt_geometry.proofs.Paths.{IsFree, free_next, step_own, step_other, length-step, same_or_not}
 use Rattle.lt_principal.specs.Paths.{when_zero, ways_below, ways}
 

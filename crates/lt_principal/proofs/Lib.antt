@@ -2,3 +2,4 @@ pub mod Rows
 pub mod Ways
 pub mod AllOrders
 pub mod Ascending
+pub mod Narrow

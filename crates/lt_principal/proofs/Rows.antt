@@ -1,9 +1,8 @@
 -- The numbers of the principal form, as the loop writes them, and their bounds.
-use Rattle.std.proofs.Common.{◌≡◌, ℕ, zero, suc, ℤ, pos, negsuc, ◌*ℤ◌, ◌<◌, ◌≤◌, ◌+◌, ◌-◌, ◌^◌, refl, ap, arith, sym, ◌∙◌, subst, List, [], ◌∷◌, ◌++◌, length, nat_abs, append_assoc, length-append, inl, inr}
+use Rattle.std.proofs.Common.{◌≡◌, ℕ, zero, suc, ℤ, pos, negsuc, ◌<◌, ◌≤◌, ◌+◌, ◌-◌, ◌^◌, refl, ap, arith, sym, ◌∙◌, List, [], ◌∷◌, ◌++◌, length, append_assoc, length-append, inl, inr}
 use Rattle.std.proofs.lemmas.Int.{ints}
 use Rattle.std.specs.List.{All}
 use Rattle.std.proofs.lemmas.List.Elements.{All-nil, All-cons, All-append}
-use Rattle.lt_model.proofs.Squares.{length-scale}
 use Rattle.lt_model.specs.Vectors.{scale, ones}
 use Rattle.lt_model.specs.Forms.{numbers_of_form}
 use Rattle.lt_model.specs.Principal.{principal_rows}

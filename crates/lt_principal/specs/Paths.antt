@@ -1,7 +1,7 @@
 -- All paths of steps along different coordinates, in ascending order.
 use Rattle.std.specs.Prelude.{ℕ, zero, suc, ℤ, pos, negsuc, List, [], ◌∷◌, ◌++◌, ◌-◌, map, length, get_or}
 use Rattle.arrayvec.specs.ArrayVec.{ArrayVec}
-use Rattle.lt_model.specs.Vectors.{plus, zeros, unit}
+use Rattle.lt_model.specs.Vectors.{plus, unit}
 use Rattle.lt_model.specs.Facets.{number_at}
 
 -- the points of each list

@@ -1,9 +1,7 @@
-use Rattle.std.proofs.Common.{◌≡◌, ◌∙◌, ap, sym, subst, ◌∷◌, []}
+use Rattle.std.proofs.Common.{◌≡◌, ◌∙◌, ap, ◌∷◌, []}
 use Rattle.lt_model.specs.Vectors.{zeros}
-use Rattle.lt_model.specs.Simplices.{AllOfDimension}
-use Rattle.lt_model.specs.Principal.{IsPrincipal}
 use Rattle.lt_model.proofs.Opposite.{length-zeros}
-use Rattle.lt_principal.specs.Paths.{points_of, last_point, ways, before_each}
+use Rattle.lt_principal.specs.Paths.{points_of, ways, before_each}
 use Rattle.lt_principal.proofs.Ascending.{ways_are_principal}
 use Rattle.lt_principal.proofs.classes.principal_points.Goals as goal
 

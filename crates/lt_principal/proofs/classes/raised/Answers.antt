@@ -1,4 +1,4 @@
-use Rattle.std.proofs.Common.{rules, refl, arith, ◌≡◌, ◌∙◌, ap, sym, length, take, pos, ◌++◌, ◌∷◌, [], ◌^◌, w64, ◌+◌}
+use Rattle.std.proofs.Common.{refl, arith, ◌≡◌, ◌∙◌, length, ◌++◌, ◌∷◌, [], ◌^◌, w64}
 use Rattle.std.proofs.lemmas.Int.{ints, to_z-of_z}
 use Rattle.std.proofs.lemmas.List.Elements.{All-append, All-cons, All-nil}
 use Rattle.lt_lattice.specs.Ranges.{IsWithin}

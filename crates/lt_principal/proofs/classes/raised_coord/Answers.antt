@@ -1,4 +1,4 @@
-use Rattle.std.proofs.Common.{arith, sym, ◌∙◌, ◌≡◌, ◌≢◌, w64}
+use Rattle.std.proofs.Common.{arith, sym, ◌∙◌, w64}
 use Rattle.std.proofs.lemmas.Int.{ints, to_z-of_z}
 use Rattle.lt_principal.proofs.Ways.{raised_there, raised_elsewhere}
 use Rattle.lt_principal.proofs.classes.raised_coord.Goals as goal

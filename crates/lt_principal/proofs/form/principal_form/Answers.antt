@@ -1,4 +1,4 @@
-use Rattle.std.proofs.Common.{rules, refl, arith, ◌≡◌, ◌∙◌, List, ℤ}
+use Rattle.std.proofs.Common.{refl, ◌≡◌}
 use Rattle.lt_model.specs.Principal.{principal_rows}
 use Rattle.lt_principal.proofs.Rows.{rows_below}
 use Rattle.lt_geometry.proofs.Closed.{length-rows}

@@ -1,4 +1,4 @@
-use Rattle.std.proofs.Common.{rules, arith, ◌≡◌, ◌++◌, ◌∷◌, [], pos, negsuc, ℤ, List, ◌-◌, ◌+◌, ◌<◌, length, refl}
+use Rattle.std.proofs.Common.{rules, arith, ◌≡◌, ◌++◌, ◌∷◌, [], pos, negsuc, ◌-◌, ◌+◌, refl}
 use Rattle.lt_model.specs.Principal.{principal_rows}
 use Rattle.lt_principal.proofs.Rows.{twos, row_pushed, two_pushed, rows_begin, twos_begin, room}
 use Rattle.lt_principal.proofs.form.principal_numbers.Goals as goal
