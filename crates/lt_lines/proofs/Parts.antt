@@ -17,6 +17,7 @@ pieces_at piece xs i d lt =
     ∙ ap (λ l. flat_map piece (take i xs ++ l)) (sym (drop-cons xs i d lt))
     ∙ ap (λ l. flat_map piece l) (take-append-drop i xs)
 
+-- whole pieces before place i, and a front of the piece there, are a front of all pieces
 pub front_of_pieces : {X : Type 0} (piece : X → List ℕ) (a b c : Option (List ℕ)) (xs : List X) (i : ℕ) (d : X) → i < length xs → Appends a b (flat_map piece (take i xs)) → AppendsFront b c (piece (get_or xs i d)) → AppendsFront a c (flat_map piece xs)
 front_of_pieces piece a b c xs i d lt p q =
     subst (λ l. AppendsFront a c l) (pieces_at piece xs i d lt) (appended_then_front a b c _ _ p (front_of_more b c (piece (get_or xs i d)) (flat_map piece (drop (suc i) xs)) q))
@@ -25,5 +26,6 @@ first_and_rest : (zs : List ℤ) → 0 < length zs → line (signed_decimal (get
 first_and_rest [] lt = absurd (omega (arith, lt))
 first_and_rest (z ∷ zs) lt = refl
 
+-- a line of numbers is a line of its first number and the others
 pub first_of_line : (zs : List ℤ) → 0 < length zs → line (signed_decimal (get_or zs 0 (pos 0))) (take (length zs - 1) (drop 1 zs)) ≡ numbers_line zs
 first_of_line zs lt = ap (λ l. line (signed_decimal (get_or zs 0 (pos 0))) l) (take_rest zs 1) ∙ first_and_rest zs lt

@@ -7,9 +7,11 @@ use Rattle.lt_words.specs.declared.words.Command.{Command}
 use Rattle.lt_words.specs.declared.words.Command.TheVariants.{Principal}
 use Rattle.lt_words.specs.Grammar.{IsDimension, InRange, words_of, FaultAt}
 
+-- the first word of the command
 abbrev principal : List ℕ
 principal = codes "principal"
 
+-- what stands in the front of a command
 begins_one : (u : List ℕ) (c : Command) (rest : List (List ℕ)) → u ∷ rest ≡ words_of c → u ≡ principal
 begins_one u (Principal d) rest e = cc
 
@@ -31,6 +33,7 @@ decimal_is d r = decimal_digit d (omega (arith, r.0, r.1))
 two : IsDimension 2
 two = (omega arith, omega arith)
 
+-- another first word, or none
 pub fault_first : (ws : List (List ℕ)) → (get_or ws 0 [] ≡ principal → ⊥) → FaultAt ws 0
 fault_first [] other = record {
   within = omega arith;
@@ -45,6 +48,7 @@ fault_first (u ∷ ws) other = record {
   outside = λ a. other (begins_one u a.0 ws a.2);
 }
 
+-- another second word, or none
 pub fault_second : (ws : List (List ℕ)) → get_or ws 0 [] ≡ principal → ((d : ℕ) → IsDimension d → get_or ws 1 [] ≡ decimal d → ⊥) → FaultAt ws 1
 fault_second [] is other = absurd cc
 fault_second (u ∷ []) is other = record {
@@ -60,6 +64,7 @@ fault_second (u ∷ v ∷ ws) is other = record {
   outside = λ a. let s = begins_two u v a.0 ws a.1 a.2 in other s.0 s.1 s.2;
 }
 
+-- a third word
 pub fault_third : (ws : List (List ℕ)) (d : ℕ) → IsDimension d → get_or ws 0 [] ≡ principal → get_or ws 1 [] ≡ decimal d → (length ws ≡ 2 → ⊥) → FaultAt ws 2
 fault_third [] d r is is2 more = absurd cc
 fault_third (u ∷ []) d r is is2 more = let s : [] ≡ (48 + d) ∷ [] = is2 ∙ decimal_is d r in absurd cc
@@ -82,6 +87,7 @@ spells_none bytes word is other d r e =
     let b : get_or bytes 0 0 ≡ 48 + d = ap (λ l. get_or l 0 0) s in
     other (ap length s) (omega (arith, b, r.0)) (omega (arith, b, r.1))
 
+-- no word at all, and the first word alone
 pub fault_of_none : (ws : List (List ℕ)) → length ws ≡ 0 → FaultAt ws 0
 fault_of_none [] len = fault_first [] (λ e. absurd cc)
 fault_of_none (u ∷ ws) len = absurd (omega (arith, len))

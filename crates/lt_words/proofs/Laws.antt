@@ -16,9 +16,11 @@ begins_before ws p q le b =
 no_later_fault : (ws : List (List ℕ)) (p q : ℕ) → FaultAt ws p → FaultAt ws q → p < q → ⊥
 no_later_fault ws p q f h lt = f.here (omega (arith, h.within)) (begins_before ws (p + 1) q (omega arith) h.before)
 
+-- words have their fault at one place
 pub one_place : (ws : List (List ℕ)) (p q : ℕ) → FaultAt ws p → FaultAt ws q → p ≡ q
 one_place ws p q f h = omega (arith, no_later_fault ws p q f h, no_later_fault ws q p h f)
 
+-- no two commands have the same words
 pub one_command : (c c' : Command) → InRange c → InRange c' → words_of c ≡ words_of c' → c ≡ c'
 one_command (Principal d) (Principal d') r r' e =
     let same : decimal d ≡ decimal d' = cc in

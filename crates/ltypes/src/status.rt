@@ -10,15 +10,20 @@ use lt_lines::{write_count, write_line};
 /// Why the program ends.
 #[derive(Clone, Copy, Debug, PartialEq, Eq, Drop)]
 pub enum Cause {
+    /// The whole output was written.
     Done,
+    /// The words are no command: the first fault stands at `place`, counted from 0.
     Words { place: u32 },
+    /// Memory was refused.
     Memory,
+    /// The sink for the output failed.
     WriteFault,
 }
 
 /// How the program ends.
 #[derive(Clone, Copy, Debug, PartialEq, Eq, Drop)]
 pub struct Status {
+    /// The number of the cause, with which the program ends.
     pub code: u8,
     pub cause: Cause,
 }
