@@ -10,3 +10,5 @@ pub mod Sets
 pub mod Dependent
 pub mod Expressions
 pub mod Moved
+pub mod Wedges
+pub mod Cuts
