@@ -41,7 +41,7 @@ divides_other a b c h k =
     let all : IsGcd (a * c) (b * c) c = subst (λ (g : ℕ). IsGcd (a * c) (b * c) g) (ap (λ (g : ℕ). g * c) one ∙ one-mul c) (s.scaled c) in
     all.2 a (dvd-mul_right a c) k
 
-coprime_part : (d a b : ℕ) → d ∣ a → IsGcd a b 1 → IsGcd d b 1
+pub coprime_part : (d a b : ℕ) → d ∣ a → IsGcd a b 1 → IsGcd d b 1
 coprime_part d a b h k = (one-dvd d, one-dvd b, λ e p q. k.2 e (dvd_trans e p h) q)
 
 coprime_product : (a b c : ℕ) → IsGcd a b 1 → IsGcd a c 1 → IsGcd a (b * c) 1

@@ -11,7 +11,7 @@ use Rattle.lt_num.proofs.Coprime.{divides_other, coprime_rest}
 use Rattle.lt_num.proofs.Laws.{mul_comm_z, mul_add_z, mul_neg_z, sorts}
 
 -- ---- one ratio of each quotient
-cancel_z : (b x y : ℤ) → b ≢ pos 0 → b *ℤ x ≡ b *ℤ y → x ≡ y
+pub cancel_z : (b x y : ℤ) → b ≢ pos 0 → b *ℤ x ≡ b *ℤ y → x ≡ y
 cancel_z b x y h e =
     let spread : b *ℤ (x +ℤ neg_ℤ y) ≡ b *ℤ x +ℤ neg_ℤ (b *ℤ y) = mul_add_z b x (neg_ℤ y) ∙ ap (λ (z : ℤ). b *ℤ x +ℤ z) (mul_neg_z b y) in
     let none : b *ℤ (x +ℤ neg_ℤ y) ≡ pos 0 = omega (arith, ints, spread, e) in

@@ -28,16 +28,28 @@ signed_ratio negative top bottom = record { num = cond negative (neg_ℤ (pos to
 abbrev pub IsTooLarge : ℤ → ℤ → Type 0
 IsTooLarge a b = (q : Ratio) → IsQuotient a b q → Fits q → ⊥
 
--- what the sum of p and q is computed from fits 128 bits: with g the greatest common divisor of the denominators, each numerator
--- times the other denominator divided by g, their sum, and the common denominator
+-- k and l are b and e divided by their greatest common divisor
+pub record AreRests (b e k l : ℤ) : Type 0 where
+  pub g : ℤ
+  pub positive : pos 0 <ℤ g
+  pub divisor : IsGcd (unsigned_abs b) (unsigned_abs e) (unsigned_abs g)
+  pub first : g *ℤ k ≡ b
+  pub second : g *ℤ l ≡ e
+
+-- what the sum is computed from fits 128 bits: with the denominators b and e and g their greatest common divisor, each numerator
+-- times the other denominator divided by g, their sum, and b (e / g)
 pub record IsSumWithin (p q : Ratio) : Type 0 where
-  pub g : ℕ
   pub k : ℤ
   pub l : ℤ
-  pub divisor : IsGcd (unsigned_abs p.den) (unsigned_abs q.den) g
-  pub first : p.den ≡ pos g *ℤ k
-  pub second : q.den ≡ pos g *ℤ l
+  pub rests : AreRests p.den q.den k l
   pub left : FitsSigned w128 (p.num *ℤ l)
   pub right : FitsSigned w128 (q.num *ℤ k)
   pub sum : FitsSigned w128 (p.num *ℤ l +ℤ q.num *ℤ k)
   pub den : FitsSigned w128 (p.den *ℤ l)
+
+-- the sum and the product of two ratios
+abbrev pub IsSum : Ratio → Ratio → Ratio → Type 0
+IsSum p q = IsQuotient (p.num *ℤ q.den +ℤ q.num *ℤ p.den) (p.den *ℤ q.den)
+
+abbrev pub IsProduct : Ratio → Ratio → Ratio → Type 0
+IsProduct p q = IsQuotient (p.num *ℤ q.num) (p.den *ℤ q.den)
