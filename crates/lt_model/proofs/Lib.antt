@@ -12,3 +12,4 @@ pub mod Expressions
 pub mod Moved
 pub mod Wedges
 pub mod Cuts
+pub mod Differences
