@@ -13,3 +13,4 @@ pub mod Moved
 pub mod Wedges
 pub mod Cuts
 pub mod Differences
+pub mod Cramer
