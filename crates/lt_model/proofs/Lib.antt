@@ -14,3 +14,5 @@ pub mod Wedges
 pub mod Cuts
 pub mod Differences
 pub mod Cramer
+pub mod Exchange
+pub mod Hadamard
