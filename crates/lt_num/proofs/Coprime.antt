@@ -1,5 +1,5 @@
 -- Numbers without a common divisor.
-use Rattle.std.proofs.Common.{◌≡◌, ◌≢◌, refl, sym, ◌∙◌, ap, subst, ℕ, zero, suc, ◌+◌, ◌-◌, ◌*◌, ◌<◌, ◌≤◌, arith, mul_comm, mul-le-mul, inl, inr, ◌⊎◌}
+use Rattle.std.proofs.Common.{◌≡◌, refl, ◌∙◌, ap, subst, ℕ, zero, suc, ◌+◌, ◌-◌, ◌*◌, ◌<◌, ◌≤◌, arith, mul_comm, mul-le-mul, inl, inr}
 use Rattle.std.proofs.lemmas.Bool.{cases_lt}
 use Rattle.std.proofs.lemmas.Nat.Gcd.{dvd_trans, IsGcd-from_zero, IsGcd-from_sub, IsGcd-swap, same_from_IsGcd}
 use Rattle.std.proofs.Math.Nat.{one-dvd, dvd-mul_right, dvd_of_mul-dvd-mul_right, one-mul, mul-sub, mul-dvd-mul_right}
@@ -29,9 +29,9 @@ scaled_gcd n a zero h = record { g = a; is = IsGcd-from_zero a 0 refl; scaled = 
 scaled_gcd n zero (suc b) h = scaled_swap (suc b) 0 (record { g = suc b; is = IsGcd-from_zero (suc b) 0 refl; scaled = λ c. IsGcd-from_zero (suc b * c) (0 * c) (omega arith) })
 scaled_gcd zero (suc a) (suc b) h = absurd (omega arith)
 scaled_gcd (suc n) (suc a) (suc b) h = elim (cases_lt (suc a) (suc b)) [
-    inl l ↦ scaled_swap (suc b) (suc a) (scaled_sub (suc b) (suc a) (omega arith) (scaled_gcd n (suc b - suc a) (suc a) (omega arith)))
+  | inl l ↦ scaled_swap (suc b) (suc a) (scaled_sub (suc b) (suc a) (omega arith) (scaled_gcd n (suc b - suc a) (suc a) (omega arith)))
   | inr l ↦ scaled_sub (suc a) (suc b) l (scaled_gcd n (suc a - suc b) (suc b) (omega arith))
-  ]
+]
 
 -- Euclid's lemma
 pub divides_other : (a b c : ℕ) → IsGcd a b 1 → a ∣ b * c → a ∣ c
@@ -56,7 +56,10 @@ coprime_products x y z w xz xw yz yw =
 
 -- what is left after the greatest common divisor is taken out
 pub coprime_rest : (g x y : ℕ) → 0 < g → IsGcd (g * x) (g * y) g → IsGcd x y 1
-coprime_rest g x y p h =
-    (one-dvd x, one-dvd y, λ d k l.
+coprime_rest g x y p h = (
+  one-dvd x,
+  one-dvd y,
+  λ d k l.
       let all : (d * g) ∣ g = h.2 (d * g) (rw (mul_comm g x) (mul-dvd-mul_right d k g)) (rw (mul_comm g y) (mul-dvd-mul_right d l g)) in
-      dvd_of_mul-dvd-mul_right d p (let r : (d * g) ∣ (1 * g) = rw (one-mul g) all in r))
+      dvd_of_mul-dvd-mul_right d p (let r : (d * g) ∣ (1 * g) = rw (one-mul g) all in r),
+)

@@ -1,11 +1,11 @@
 -- Ratios in lowest terms: there is one of each quotient.
-use Rattle.std.proofs.Common.{◌≡◌, ◌≢◌, refl, sym, ◌∙◌, ap, subst, ℕ, zero, suc, ◌+◌, ◌*◌, ◌<◌, ◌≤◌, ◌/◌, ℤ, pos, negsuc, neg_ℤ, ◌+ℤ◌, ◌*ℤ◌, ◌<ℤ◌, unsigned_abs, arith, cond, Bool, true, false, mul_comm, FitsSigned, not, int_lt, MatchResult, Result, Ok, Err, T}
+use Rattle.std.proofs.Common.{◌≡◌, ◌≢◌, refl, sym, ◌∙◌, ap, subst, ℕ, zero, suc, ◌*◌, ◌<◌, ◌/◌, ℤ, pos, negsuc, neg_ℤ, ◌+ℤ◌, ◌*ℤ◌, ◌<ℤ◌, unsigned_abs, arith, cond, Bool, true, false, mul_comm, not, int_lt, MatchResult, Result, Ok, Err, T}
 use Rattle.std.proofs.lemmas.Int.{ints, unsigned_abs-mul}
 use Rattle.std.specs.Int.Signed.{lt_z_yes}
 use mathlib.Core.Bool.{beq}
-use Rattle.std.proofs.lemmas.Nat.Gcd.{mod-eq-zero_of_dvd, dvd_antisymm, IsGcd-swap, le_of_dvd}
+use Rattle.std.proofs.lemmas.Nat.Gcd.{mod-eq-zero_of_dvd, dvd_antisymm, IsGcd-swap}
 use Rattle.std.proofs.Math.Nat.{div-add-mod, dvd-mul_left, mul_assoc}
-use Rattle.std.specs.Int.{IsGcd, ◌∣◌, w128}
+use Rattle.std.specs.Int.{IsGcd, ◌∣◌}
 use Rattle.lt_num.specs.Fractions.{Ratio, IsReduced, IsQuotient, IsTooLarge, Fits, signed_ratio}
 use Rattle.lt_num.proofs.Coprime.{divides_other, coprime_rest}
 use Rattle.lt_num.proofs.Laws.{mul_comm_z, mul_add_z, mul_neg_z, sorts}

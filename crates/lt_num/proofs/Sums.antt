@@ -1,5 +1,5 @@
 -- What sums, products and comparisons of ratios are computed from.
-use Rattle.std.proofs.Common.{◌≡◌, ◌≢◌, refl, sym, ◌∙◌, ap, subst, ℕ, zero, suc, ◌+◌, ◌*◌, ◌%◌, ◌<◌, ◌≤◌, ◌^◌, ℤ, pos, negsuc, neg_ℤ, ◌+ℤ◌, ◌-ℤ◌, ◌*ℤ◌, ◌<ℤ◌, ◌≤ℤ◌, unsigned_abs, arith, FitsSigned, ◌⊎◌, inl, inr, Result, Ok, Err, MatchResult, IsOk}
+use Rattle.std.proofs.Common.{◌≡◌, ◌≢◌, refl, sym, ◌∙◌, ap, subst, ℕ, zero, suc, ◌%◌, ◌<◌, ◌^◌, ℤ, pos, negsuc, ◌+ℤ◌, ◌-ℤ◌, ◌*ℤ◌, ◌<ℤ◌, ◌≤ℤ◌, unsigned_abs, arith, FitsSigned, ◌⊎◌, inl, inr, Result, Ok, Err, MatchResult, IsOk}
 use Rattle.std.specs.declared.cmp.Ordering.{Ordering}
 use Rattle.std.specs.declared.cmp.Ordering.TheVariants.{Less, Equal, Greater}
 use Rattle.std.specs.Ordering.{MatchOrdering}
@@ -21,9 +21,10 @@ same_rests b e k l m n h r =
     let sizes = same_from_IsGcd (unsigned_abs b) (unsigned_abs e) (unsigned_abs h.g) (unsigned_abs r.g) h.divisor r.divisor in
     let p = h.positive in
     let q = r.positive in
-    let same : h.g ≡ r.g = omega (arith, ints, sizes, p, q) in
-    (cancel_z h.g k m (positive_not_zero h.g p) (h.first ∙ sym r.first ∙ ap (λ (g : ℤ). g *ℤ m) (sym same)),
-    cancel_z h.g l n (positive_not_zero h.g p) (h.second ∙ sym r.second ∙ ap (λ (g : ℤ). g *ℤ n) (sym same)))
+    let same : h.g ≡ r.g = omega (arith, ints, sizes, p, q) in (
+      cancel_z h.g k m (positive_not_zero h.g p) (h.first ∙ sym r.first ∙ ap (λ (g : ℤ). g *ℤ m) (sym same)),
+      cancel_z h.g l n (positive_not_zero h.g p) (h.second ∙ sym r.second ∙ ap (λ (g : ℤ). g *ℤ n) (sym same)),
+    )
 
 -- the common divisor that the code finds
 pub record IsShared (b e : ℤ) (g : ℕ) : Type 0 where
@@ -51,11 +52,12 @@ shared b e g p f h =
 -- the parts of a sum are the only ones
 pub within_parts : (p q : Ratio) (k l : ℤ) → AreRests p.den q.den k l → IsSumWithin p q → FitsSigned w128 (p.num *ℤ l) × FitsSigned w128 (q.num *ℤ k) × FitsSigned w128 (p.num *ℤ l +ℤ q.num *ℤ k) × FitsSigned w128 (p.den *ℤ l)
 within_parts p q k l r h =
-    let e = same_rests p.den q.den h.k h.l k l h.rests r in
-    (subst (λ (n : ℤ). FitsSigned w128 (p.num *ℤ n)) e.1 h.left,
-    subst (λ (m : ℤ). FitsSigned w128 (q.num *ℤ m)) e.0 h.right,
-    subst (λ (m : ℤ). FitsSigned w128 (p.num *ℤ l +ℤ q.num *ℤ m)) e.0 (subst (λ (n : ℤ). FitsSigned w128 (p.num *ℤ n +ℤ q.num *ℤ h.k)) e.1 h.sum),
-    subst (λ (n : ℤ). FitsSigned w128 (p.den *ℤ n)) e.1 h.den)
+    let e = same_rests p.den q.den h.k h.l k l h.rests r in (
+      subst (λ (n : ℤ). FitsSigned w128 (p.num *ℤ n)) e.1 h.left,
+      subst (λ (m : ℤ). FitsSigned w128 (q.num *ℤ m)) e.0 h.right,
+      subst (λ (m : ℤ). FitsSigned w128 (p.num *ℤ l +ℤ q.num *ℤ m)) e.0 (subst (λ (n : ℤ). FitsSigned w128 (p.num *ℤ n +ℤ q.num *ℤ h.k)) e.1 h.sum),
+      subst (λ (n : ℤ). FitsSigned w128 (p.den *ℤ n)) e.1 h.den,
+    )
 
 product_positive : (x y : ℤ) → pos 0 <ℤ x → pos 0 <ℤ y → pos 0 <ℤ (x *ℤ y)
 product_positive (pos zero) y h k = absurd (omega (arith, ints))
@@ -90,9 +92,10 @@ sum_is p q s k l r h = record {
 pub sum_answer : {E : Type 0} (p q : Ratio) (k l left right sum den : ℤ) (answer : Result Ratio E) → AreRests p.den q.den k l → left ≡ p.num *ℤ l → right ≡ q.num *ℤ k → sum ≡ p.num *ℤ l +ℤ q.num *ℤ k → den ≡ p.den *ℤ l →
     FitsSigned w128 left → FitsSigned w128 right → FitsSigned w128 sum → FitsSigned w128 den → MatchResult answer (λ s. IsQuotient sum den s) (λ _. IsTooLarge sum den) → IsOk answer →
     MatchResult answer (λ s. IsSumWithin p q × IsSum p q s) (λ _. IsSumWithin p q → ⊥)
-sum_answer p q k l left right sum den (Ok s) r el er es ed fl fr fs fd h ok =
-    (record { k = k; l = l; rests = r; left = subst (FitsSigned w128) el fl; right = subst (FitsSigned w128) er fr; sum = subst (FitsSigned w128) es fs; den = subst (FitsSigned w128) ed fd },
-    sum_is p q s k l r (rw (← es, ← ed) h))
+sum_answer p q k l left right sum den (Ok s) r el er es ed fl fr fs fd h ok = (
+  record { k = k; l = l; rests = r; left = subst (FitsSigned w128) el fl; right = subst (FitsSigned w128) er fr; sum = subst (FitsSigned w128) es fs; den = subst (FitsSigned w128) ed fd },
+  sum_is p q s k l r (rw (← es, ← ed) h),
+)
 sum_answer p q k l left right sum den (Err x) r el er es ed fl fr fs fd h ok = cc
 
 -- ---- products
@@ -115,10 +118,10 @@ product_is p q x w y z hp hq r s = record {
   reduced = record {
     positive = product_positive z w (factor_positive s.g z p.den s.positive s.second hp.positive) (factor_positive r.g w q.den r.positive r.second hq.positive);
     lowest = rw (unsigned_abs-mul x y, unsigned_abs-mul z w) (coprime_products (unsigned_abs x) (unsigned_abs y) (unsigned_abs z) (unsigned_abs w)
-      (parts_coprime p.num p.den x z (rest_divides r.g x p.num r.first) (rest_divides s.g z p.den s.second) hp.lowest)
-      (rests_coprime p.num q.den x w r)
-      (rests_coprime q.num p.den y z s)
-      (parts_coprime q.num q.den y w (rest_divides s.g y q.num s.first) (rest_divides r.g w q.den r.second) hq.lowest));
+        (parts_coprime p.num p.den x z (rest_divides r.g x p.num r.first) (rest_divides s.g z p.den s.second) hp.lowest)
+        (rests_coprime p.num q.den x w r)
+        (rests_coprime q.num p.den y z s)
+        (parts_coprime q.num q.den y w (rest_divides s.g y q.num s.first) (rest_divides r.g w q.den r.second) hq.lowest));
   };
   same = rw (← r.first, ← r.second, ← s.first, ← s.second) (crossed x y z w r.g s.g);
 }

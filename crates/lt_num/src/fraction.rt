@@ -5,7 +5,7 @@ ghost use Rattle.std.specs.Int.{IsGcd, w128};
 ghost use Rattle.std.specs.Ordering.{MatchOrdering};
 ghost use Rattle.lt_num.specs.Fractions.{Ratio, IsReduced, IsQuotient, IsTooLarge, AreRests, IsSumWithin, IsSum, IsProduct, Fits, signed_ratio};
 
-use crate::{add, common, mul, part, TooLarge};
+use crate::{TooLarge, add, common, mul, part};
 use std::cmp::Ordering;
 use std::marker::Model;
 

@@ -1,5 +1,5 @@
 use Rattle.std.proofs.Common.{arith, FitsSigned}
-use Rattle.std.proofs.lemmas.Int.{ints, to_z-of_z, quot_is, quot_fits}
+use Rattle.std.proofs.lemmas.Int.{ints, quot_is, quot_fits}
 use Rattle.std.specs.Int.{w128}
 use Rattle.lt_num.proofs.Gcds.{has_quotient, exact_quotient}
 use Rattle.lt_num.proofs.part.Goals as goal

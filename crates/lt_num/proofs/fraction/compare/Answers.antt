@@ -1,6 +1,6 @@
-use Rattle.std.proofs.Common.{arith, rules, ◌≡◌, ◌≢◌, ◌<ℤ◌, ◌≤ℤ◌, ◌∙◌, sym, ap, ℤ, ◌*ℤ◌, ◌-ℤ◌, FitsSigned, pos, to_z, of_z, inl, inr, ◌⊎◌}
+use Rattle.std.proofs.Common.{rules, ◌≡◌, ◌<ℤ◌, ◌≤ℤ◌, ◌∙◌, sym, ap, ◌*ℤ◌, FitsSigned, pos, to_z, of_z, inl, inr, ◌⊎◌}
 use Rattle.std.specs.Int.{w128, int_div_euclid, int_rem_euclid}
-use Rattle.std.proofs.lemmas.Int.{to_z-of_z, ints}
+use Rattle.std.proofs.lemmas.Int.{to_z-of_z}
 use Rattle.std.proofs.lemmas.Cmp.{int_ranked}
 use Rattle.lt_num.proofs.Sums.{euclid_split, order_by_parts, same_parts, order_at_end, same_order}
 use Rattle.lt_num.proofs.fraction.compare.Goals as goal

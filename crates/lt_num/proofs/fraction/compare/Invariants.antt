@@ -1,4 +1,4 @@
-use Rattle.std.proofs.Common.{◌≡◌, ℤ, pos, ◌+◌, ◌-ℤ◌, ◌*ℤ◌, ◌<ℤ◌, ◌≤ℤ◌, ◌⊎◌, unsigned_abs}
+use Rattle.std.proofs.Common.{◌≡◌, pos, ◌+◌, ◌-ℤ◌, ◌*ℤ◌, ◌<ℤ◌, ◌≤ℤ◌, ◌⊎◌, unsigned_abs}
 use Rattle.lt_num.proofs.fraction.compare.Given as goal
 
 abbrev pub invariant-loop-b : goal.invariant-loop-b

@@ -1,4 +1,4 @@
-use Rattle.std.proofs.Common.{arith, rules, ◌≡◌, ◌<◌, ◌^◌, FitsSigned, unsigned_abs, pos}
+use Rattle.std.proofs.Common.{arith, rules, ◌≡◌, FitsSigned, unsigned_abs, pos}
 use Rattle.std.specs.Int.{w128, IsGcd}
 use Rattle.std.proofs.lemmas.Int.{to_z-of_z, to_z_pos, ints, fits_signed_from_abs}
 use Rattle.lt_num.proofs.Sums.{shared}

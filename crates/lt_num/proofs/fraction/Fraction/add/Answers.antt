@@ -1,8 +1,8 @@
-use Rattle.std.proofs.Common.{rules, arith, ◌≡◌, ◌≢◌, ◌∙◌, ap, sym, FitsSigned, pos, ◌*ℤ◌, ◌+ℤ◌, ◌<ℤ◌, ℤ, MatchResult, subst}
+use Rattle.std.proofs.Common.{rules, arith, ◌≡◌, ◌∙◌, sym, FitsSigned, pos, ◌*ℤ◌, ◌+ℤ◌, ◌<ℤ◌}
 use Rattle.std.specs.Int.{w128}
 use Rattle.std.proofs.lemmas.Int.{to_z-of_z, ints}
-use Rattle.lt_num.specs.Fractions.{Ratio, AreRests, IsSumWithin, IsSum, IsQuotient}
-use Rattle.lt_num.proofs.Sums.{within_parts, sum_den, sum_is, sum_answer}
+use Rattle.lt_num.specs.Fractions.{Ratio, AreRests, IsSumWithin}
+use Rattle.lt_num.proofs.Sums.{within_parts, sum_den, sum_answer}
 use Rattle.lt_num.proofs.fraction.Fraction.add.Goals as goal
 
 pub returns-in_err-left : goal.returns-in_err-left
