@@ -12,3 +12,4 @@ pub mod Principal
 pub mod Reached
 pub mod Limits
 pub mod Cones
+pub mod Exterior
