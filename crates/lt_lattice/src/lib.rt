@@ -2,12 +2,10 @@
 #![tactic(auto)]
 
 mod forms;
-
 mod normals;
 mod numbers;
 mod points;
 
-pub use forms::{value, Form};
-
-pub use normals::{pair, Normal};
+pub use forms::{Form, value};
+pub use normals::{Normal, pair};
 pub use points::Point;
