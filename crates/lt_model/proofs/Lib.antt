@@ -10,3 +10,4 @@ pub mod Sets
 pub mod Dependent
 pub mod Expressions
 pub mod Moved
+pub mod Flat
