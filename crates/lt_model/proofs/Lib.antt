@@ -11,3 +11,5 @@ pub mod Dependent
 pub mod Expressions
 pub mod Moved
 pub mod Flat
+pub mod Wedges
+pub mod Cuts

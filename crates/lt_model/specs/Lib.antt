@@ -13,3 +13,4 @@ pub mod Principal
 pub mod Reached
 pub mod Limits
 pub mod Cones
+pub mod Exterior
