@@ -1,0 +1,14 @@
+//! Classes of simplices, triangulations, and the neighbours of their facets.
+#![tactic(auto)]
+
+mod classes;
+mod dependencies;
+mod neighbours;
+mod sides;
+mod spans;
+mod triangulations;
+mod vertices;
+
+pub use classes::{Class, Flat};
+pub use neighbours::Neighbour;
+pub use triangulations::{TriangError, Triangulation};

@@ -1,0 +1,47 @@
+//! How far the vertices of classes lie apart.
+
+ghost use Rattle.std.specs.Prelude.{◌≡◌, ◌^◌, ◌≤◌, ℕ, ℤ, List, length, map};
+ghost use Rattle.std.specs.List.{All};
+ghost use Rattle.lt_model.specs.Limits.{greatest, gap, class_span};
+ghost use Rattle.lt_model.specs.Simplices.{AllOfDimension};
+ghost use Rattle.lt_lattice.specs.Ranges.{IsWithin};
+
+use lt_lattice::Point;
+
+/// The greatest absolute difference of two points in one coordinate.
+fn gap_of(x: &[i32], y: &[i32]) -> u32
+    requires same { length x.now ≡ length y.now }
+    requires left { All (IsWithin (2 ^ 20)) x.now }
+    requires right { All (IsWithin (2 ^ 20)) y.now }
+    ensures { result ≡ gap x.now y.now }
+{
+    let mut widest: u32 = 0;
+    for k in 0..x.len() {
+        widest = widest.max((x[k] - y[k]).unsigned_abs());
+    }
+    widest
+}
+
+/// The greatest gap between a point and one of the points.
+fn farthest(x: &Point, points: &[Point]) -> u32
+    requires { AllOfDimension (length x.now) points.now }
+    ensures { result ≡ greatest (map (gap x.now) points.now) }
+{
+    let mut widest: u32 = 0;
+    for i in 0..points.len() {
+        widest = widest.max(gap_of(x.coords(), points[i].coords()));
+    }
+    widest
+}
+
+/// The greatest gap of two of the points.
+pub fn span_of(d: usize, points: &[Point]) -> u32
+    requires { AllOfDimension d points.now }
+    ensures { result ≡ class_span points.now }
+{
+    let mut widest: u32 = 0;
+    for i in 0..points.len() {
+        widest = widest.max(farthest(&points[i], points));
+    }
+    widest
+}
