@@ -5,7 +5,7 @@ use Rattle.std.proofs.lemmas.List.{drop_more, drop_all}
 use Rattle.lt_model.proofs.Squares.{length-scale, length-plus}
 use Rattle.std.specs.Prelude.{nat_le}
 use Rattle.std.specs.List.{All, AllByRecursion, Contains}
-use Rattle.std.proofs.lemmas.List.Elements.{Contains-get_or}
+use Rattle.std.proofs.lemmas.List.Elements.{Contains-get_or, All-contains}
 use Rattle.lt_model.proofs.Sets.{Contains-head, Contains-tail}
 use Rattle.lt_model.specs.Limits.{greatest, gap, class_span, span, span_limit}
 use Rattle.lt_model.specs.Vectors.{minus, scale, zeros}
@@ -44,11 +44,6 @@ contains_map f (y ∷ xs) x (suc k, p, e) =
 gap_within : (m : ℕ) (z : List ℤ) → greatest (map nat_abs z) ≤ m → All (IsWithin m) z
 gap_within m z le k e p = omega (arith, le_greatest (map nat_abs z) (nat_abs (get_or z k e)) (contains_map nat_abs z (get_or z k e) (Contains-get_or z k e p)))
 
-pub near_from_span : (m : ℕ) (t : List (List (List ℤ))) (s : List (List ℤ)) → span t ≤ m → Contains t s → AreNear m s
-near_from_span m t s le c x y cx cy =
-    gap_within m (minus x y)
-    (omega (arith, le, le_greatest (map class_span t) (class_span s) (contains_map class_span t s c), le_greatest (map (λ v. greatest (map (gap v) s)) s) (greatest (map (gap x) s)) (contains_map (λ v. greatest (map (gap v) s)) s x cx), le_greatest (map (gap x) s) (gap x y) (contains_map (gap x) s y cy)))
-
 pub minus-zeros : (d : ℕ) (v : List ℤ) → length v ≡ d → minus v (zeros d) ≡ v
 minus-zeros zero [] l = refl
 minus-zeros zero (a ∷ v) l = absurd (omega arith)
@@ -66,6 +61,25 @@ within_from_near m d s k near =
     each [] all h = tt
     each (v ∷ vs) all h =
         (subst (λ (w : List ℤ). All (IsWithin m) w) (minus-zeros d v all.0) (h v (Contains-head v vs)), each vs all.1 (λ x c. h x (Contains-tail v vs x c)))
+
+-- the span of points tells how near they are
+pub near_from_class_span : (m : ℕ) (s : List (List ℤ)) → class_span s ≤ m → AreNear m s
+near_from_class_span m s le x y cx cy =
+    gap_within m (minus x y)
+    (omega (arith, le, le_greatest (map (λ v. greatest (map (gap v) s)) s) (greatest (map (gap x) s)) (contains_map (λ v. greatest (map (gap v) s)) s x cx), le_greatest (map (gap x) s) (gap x y) (contains_map (gap x) s y cy)))
+
+pub near_from_span : (m : ℕ) (t : List (List (List ℤ))) (s : List (List ℤ)) → span t ≤ m → Contains t s → AreNear m s
+near_from_span m t s le c = near_from_class_span m s (omega (arith, le, le_greatest (map class_span t) (class_span s) (contains_map class_span t s c)))
+
+pub greatest_at_most : {X : Type 0} (f : X → ℕ) (xs : List X) (m : ℕ) → ((x : X) → Contains xs x → f x ≤ m) → greatest (map f xs) ≤ m
+greatest_at_most f [] m h = omega arith
+greatest_at_most f (x ∷ xs) m h = omega (arith, h x (Contains-head x xs), greatest_at_most f xs m (λ y c. h y (Contains-tail x xs y c)))
+
+gap_from_within : (m : ℕ) (z : List ℤ) → All (IsWithin m) z → greatest (map nat_abs z) ≤ m
+gap_from_within m z all = greatest_at_most nat_abs z m (λ x c. All-contains (IsWithin m) z x all c)
+
+pub class_span_from_near : (m : ℕ) (s : List (List ℤ)) → AreNear m s → class_span s ≤ m
+class_span_from_near m s near = greatest_at_most (λ v. greatest (map (gap v) s)) s m (λ x cx. greatest_at_most (gap x) s m (λ y cy. gap_from_within m (minus x y) (near x y cx cy)))
 
 pub member_near : (d : ℕ) (t : List (List (List ℤ))) (s : List (List ℤ)) → AreClasses d t → Contains t s → AreNear (span_limit d) s
 member_near d t s h c = near_from_span (span_limit d) t s h.narrow c

@@ -1,12 +1,29 @@
 //! How far the vertices of classes lie apart.
 
-ghost use Rattle.std.specs.Prelude.{◌≡◌, ◌^◌, ◌≤◌, ℕ, ℤ, List, length, map};
+ghost use Rattle.std.specs.Prelude.{◌≡◌, ◌^◌, ◌*◌, ◌-◌, ◌≤◌, ℕ, ℤ, pos, List, length, map, IsTrue, ◌↔◌};
 ghost use Rattle.std.specs.List.{All};
+ghost use Rattle.lt_model.specs.Limits as limits;
 ghost use Rattle.lt_model.specs.Limits.{greatest, gap, class_span};
 ghost use Rattle.lt_model.specs.Simplices.{AllOfDimension};
 ghost use Rattle.lt_lattice.specs.Ranges.{IsWithin};
+ghost use Rattle.lt_triang.specs.Bounds.{AreNear};
 
 use lt_lattice::Point;
+
+/// The greatest span of an entry in dimension `d`.
+fn limit(d: u8) -> u32
+    ensures value { result ≡ limits.span_limit d }
+    ensures small { result ≤ 400 }
+{
+    if d <= 5 { 400 } else { 100 }
+}
+
+/// The span limit: the greatest span of an entry in dimension `d`.
+pub fn span_limit(d: u8) -> i64
+    ensures { result ≡ pos (limits.span_limit d) }
+{
+    i64::from(limit(d))
+}
 
 /// The greatest absolute difference of two points in one coordinate.
 fn gap_of(x: &[i32], y: &[i32]) -> u32
@@ -44,4 +61,15 @@ pub fn span_of(d: usize, points: &[Point]) -> u32
         widest = widest.max(farthest(&points[i], points));
     }
     widest
+}
+
+/// Whether two of the d + 1 points differ by at most twice the span limit in each coordinate.
+pub fn are_near(points: &[Point]) -> bool
+    requires low { 3 ≤ length points.now }
+    requires high { length points.now ≤ 7 }
+    requires dimension { AllOfDimension (length points.now - 1) points.now }
+    ensures { IsTrue result ↔ AreNear (2 * limits.span_limit (length points.now - 1)) points.now }
+{
+    let d = points.len() - 1;
+    span_of(d, points) <= 2 * limit(d as u8)
 }
