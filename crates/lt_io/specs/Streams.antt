@@ -1,4 +1,4 @@
--- What the sources and sinks in memory are seen as, and what their calls do.
+-- What sources and sinks are seen as, and what the calls of those in memory do.
 use Rattle.std.specs.Prelude.{◌≡◌, ◌⊎◌, ◌↔◌, ℕ, ◌-◌, ◌<◌, List, ◌++◌, length, take, drop, min, Result, IsErr, IfOk, OnErr}
 use Rattle.std.specs.List.{Contains}
 use Rattle.lt_io.specs.Causes.{one_more}
@@ -20,6 +20,11 @@ pub record Outgoing : Type 0 where
   pub fail : List ℕ
   pub calls : ℕ
   pub faults : ℕ
+
+-- another sink, and the bytes that wait for it
+pub record Gathered (K : Type 0) : Type 0 where
+  pub sink : K
+  pub waiting : List ℕ
 
 -- a call that takes bytes to a buffer of this size
 pub record Takes {E : Type 0} (old new : Incoming) (size : ℕ) (result : Result ℕ E) : Type 0 where

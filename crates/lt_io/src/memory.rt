@@ -179,7 +179,7 @@ fn is_refused(fail: &[u64], call: u64, room: usize, bytes: &[u8]) -> bool
 }
 
 /// Writes bytes over those that stand from place `start` on.
-fn put_at(all: &mut [u8], start: usize, bytes: &[u8])
+pub fn put_at(all: &mut [u8], start: usize, bytes: &[u8])
     requires { start + length bytes.now ≤ length all.old }
     ensures front { take (start + length bytes.now) all.new ≡ take start all.old ++ bytes.now }
     ensures len { length all.new ≡ length all.old }

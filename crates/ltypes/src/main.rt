@@ -8,14 +8,16 @@ mod status;
 
 pub use command::{ltypes, outputs_are_exact, principal_command};
 pub use gate::{Gate, OpenGate};
-use lt_io::{StdSink, StdSource};
+use lt_io::{LineSink, StdSink, StdSource};
 pub use status::{Cause, Status};
 use std::env;
 use std::io::ErrorKind;
 use std::process::ExitCode;
 
+/// The status where memory for the list of words is refused.
 const MEMORY: u8 = 4;
 
+/// The status where the system doesn't give the words as text.
 const NO_WORDS: u8 = 15;
 
 fn main(rt: HostRuntime) -> ExitCode {
@@ -39,7 +41,8 @@ fn main(rt: HostRuntime) -> ExitCode {
         }
     }
     let mut source = StdSource::new(rt.stdin());
-    let mut out = StdSink::new(rt.stdout());
+    // A line of output is one or two calls of the system, not one for each number.
+    let mut out = LineSink::new(StdSink::new(rt.stdout()));
     let mut err = StdSink::new(rt.stderr());
     let status = ltypes(
         &rt,
