@@ -1,5 +1,5 @@
 -- Sums of products, place by place, and how large they can be.
-use Rattle.std.proofs.Common.{◌≡◌, ℕ, suc, ℤ, pos, ◌+ℤ◌, ◌*ℤ◌, ◌<◌, ◌≤◌, ◌+◌, ◌*◌, ◌^◌, refl, ap, arith, List, [], ◌∷◌, length, drop, get_or, drop-cons, add-one, nat_abs, mul-le-mul}
+use Rattle.std.proofs.Common.{◌≡◌, ℕ, suc, ℤ, pos, ◌+ℤ◌, ◌*ℤ◌, ◌<◌, ◌≤◌, ◌+◌, ◌*◌, ◌^◌, refl, arith, List, [], ◌∷◌, length, drop, get_or, drop-cons, add-one, nat_abs, mul-le-mul}
 use Rattle.std.proofs.lemmas.Int.{ints, to_z-of_z, unsigned_abs-mul}
 use mir.Val.{SFits, of_z, to_z}
 use mir.Syntax.{w128}

@@ -2,12 +2,12 @@
 #![tactic(auto)]
 
 mod forms;
-
+mod matrices;
 mod normals;
 mod numbers;
 mod points;
 
-pub use forms::{value, Form};
-
-pub use normals::{pair, Normal};
+pub use forms::{Form, value};
+pub use matrices::{Matrix, TooLarge, apply, inverse_of, times};
+pub use normals::{Normal, pair};
 pub use points::Point;

@@ -8,8 +8,8 @@ ghost use Rattle.lt_lattice.specs.Ranges.{IsWithin};
 use arrayvec::ArrayVec;
 use std::marker::Model;
 
-/// The greatest absolute value of a coordinate.
-const GREATEST: i32 = 1_048_576;
+/// The greatest absolute value of a coordinate: 2^20.
+const GREATEST: i32 = 1 << 20;
 
 /// A point of 2 to 6 whole coordinates, each at most 2^20 in absolute value.
 #[derive(Drop, PartialEq, Eq, PartialOrd, Ord)]
@@ -178,4 +178,21 @@ fn checked(coords: ArrayVec<i32, 6>) -> Option<Point>
     } else {
         None
     }
+}
+
+/// The point with these coordinates, or None where one of them is too great.
+pub fn narrowed(numbers: &[i128]) -> Option<Point>
+    requires low { 2 ≤ length numbers.now }
+    requires high { length numbers.now ≤ 6 }
+    ensures value { IfSome result (λ p. p ≡ numbers.now) }
+    ensures within { IsSome result ↔ All (IsWithin (2 ^ 20)) numbers.now }
+{
+    let mut coords: ArrayVec<i32, 6> = ArrayVec::new();
+    for number in numbers {
+        if *number < -(GREATEST as i128) || *number > GREATEST as i128 {
+            return None;
+        }
+        coords.push(*number as i32);
+    }
+    Some(Point { coords })
 }

@@ -10,3 +10,11 @@ pub mod Sets
 pub mod Dependent
 pub mod Expressions
 pub mod Moved
+pub mod Translates
+pub mod Flat
+pub mod Wedges
+pub mod Cuts
+pub mod Differences
+pub mod Cramer
+pub mod Exchange
+pub mod Hadamard

@@ -8,7 +8,9 @@ pub mod Triangulations
 pub mod Walls
 pub mod Flips
 pub mod Matrices
+pub mod Flat
 pub mod Principal
 pub mod Reached
 pub mod Limits
 pub mod Cones
+pub mod Exterior

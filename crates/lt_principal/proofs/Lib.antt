@@ -3,3 +3,4 @@ pub mod Ways
 pub mod AllOrders
 pub mod Ascending
 pub mod Narrow
+pub mod Members

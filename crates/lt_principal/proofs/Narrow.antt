@@ -70,7 +70,7 @@ class_narrow : (d : ℕ) (p : List ℕ) → IsOrder d p → class_span (principa
 class_narrow d p o =
     let bits : (v : List ℤ) → Contains (principal_class d p) v → AreBits v = path_bits d (zeros d) p (free_order d p o) (zeros_are_bits d) in
     greatest_map (λ v. greatest (map (gap v) (principal_class d p))) (principal_class d p) 1
-        (λ v c. greatest_map (gap v) (principal_class d p) 1 (λ w e. gap_of_bits v w (bits v c) (bits w e)))
+    (λ v c. greatest_map (gap v) (principal_class d p) 1 (λ w e. gap_of_bits v w (bits v c) (bits w e)))
 
 -- the list of classes may hold them in any order
 pub principal_narrow : (d : ℕ) (t given : List (List (List ℤ))) → IsPrincipal d t → ((s : List (List ℤ)) → Contains given s → Contains t s) → span given ≤ span_limit d

@@ -102,7 +102,7 @@ fn push_paths(
 
 /// The classes of the principal triangulation of dimension `d`, 2 to 6, in ascending order: for each order of the
 /// coordinates the `d + 1` points of the path from 0 to (1, .., 1) that raises them in this order.
-pub fn principal_points(alloc: Global, d: u8) -> Result<Vec<ArrayVec<Point, 7>>, Memory>
+pub(crate) fn principal_points(alloc: Global, d: u8) -> Result<Vec<ArrayVec<Point, 7>>, Memory>
     requires low { 2 ≤ d }
     requires high { d ≤ 6 }
     ensures { IfOk result (λ classes. IsPrincipal d (points_of classes.items)) }

@@ -3,6 +3,7 @@
 
 mod classes;
 mod form;
+mod triangulations;
 
-pub use classes::principal_points;
 pub use form::principal_form;
+pub use triangulations::principal;

@@ -1,7 +1,4 @@
-use Rattle.std.proofs.Common.{rules, arith, ◌≡◌, pos, ℤ, get_or, ◌*ℤ◌, ◌+ℤ◌, ◌++◌, ◌∷◌, []}
-use Rattle.std.proofs.lemmas.Int.{ints, to_z-of_z}
-use mir.Val.{SFits, to_z, of_z}
-use mir.Syntax.{w128, w32}
+use Rattle.std.proofs.Common.{arith, ◌≡◌, pos, get_or, ◌*ℤ◌, ◌++◌, ◌∷◌, []}
 use Rattle.lt_lattice.proofs.Products.{row_room, row_more, cast_product}
 use Rattle.lt_lattice.proofs.forms.products.Goals as goal
 

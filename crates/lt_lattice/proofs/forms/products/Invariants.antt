@@ -1,4 +1,4 @@
-use Rattle.std.proofs.Common.{◌≡◌, take, drop, ◌+ℤ◌, ◌++◌, get_or, pos, ◌+◌, ◌-◌, ◌≤◌, length}
+use Rattle.std.proofs.Common.{◌≡◌, drop, ◌++◌, get_or, pos, ◌+◌}
 use Rattle.lt_model.specs.Vectors.{scale}
 use Rattle.lt_model.specs.Forms.{squares}
 use Rattle.lt_lattice.proofs.forms.products.Given as goal

@@ -1,4 +1,4 @@
-use Rattle.std.proofs.Common.{rules, arith, ◌≡◌, sym, ◌∙◌, ◌*◌, ◌≤◌, ◌^◌, length}
+use Rattle.std.proofs.Common.{arith, ◌≡◌, sym, ◌∙◌, ◌*◌, ◌≤◌, ◌^◌, length}
 use Rattle.lt_model.specs.Forms.{squares}
 use Rattle.lt_lattice.specs.Ranges.{size_of_dot}
 use Rattle.lt_lattice.proofs.Dots.{size_within, within_below}

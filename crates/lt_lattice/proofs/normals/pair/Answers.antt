@@ -1,4 +1,4 @@
-use Rattle.std.proofs.Common.{rules, arith, ◌≡◌, ◌*◌, ◌≤◌, ◌^◌, length}
+use Rattle.std.proofs.Common.{arith, ◌*◌, ◌≤◌, ◌^◌, length}
 use Rattle.lt_lattice.specs.Ranges.{size_of_dot}
 use Rattle.lt_lattice.proofs.Dots.{size_within, within_below}
 use Rattle.lt_lattice.proofs.normals.pair.Goals as goal

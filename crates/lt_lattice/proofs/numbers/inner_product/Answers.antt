@@ -1,4 +1,4 @@
-use Rattle.std.proofs.Common.{rules, arith, ◌≡◌, pos, ℤ, get_or, ◌*ℤ◌, ◌+ℤ◌, ◌+◌, ◌<◌, ◌≤◌, ◌^◌, nat_abs}
+use Rattle.std.proofs.Common.{rules, arith, pos, get_or}
 use Rattle.std.proofs.lemmas.Int.{ints}
 use mir.Val.{SFits}
 use mir.Syntax.{w128}

@@ -1,4 +1,4 @@
-use Rattle.std.proofs.Common.{rules, arith, ◌≡◌, length}
+use Rattle.std.proofs.Common.{arith, length}
 use Rattle.lt_lattice.proofs.Lengths.{form_length, at_most_21}
 use Rattle.lt_lattice.proofs.forms.Form.of.Goals as goal
 

@@ -1,0 +1,13 @@
+pub mod Tied
+pub mod Permuted
+pub mod Independent
+pub mod Signs
+pub mod Least
+pub mod Steps
+pub mod Beyond
+pub mod Shifts
+pub mod Columned
+pub mod Parallel
+pub mod Gaps
+pub mod Made
+pub mod Distinct

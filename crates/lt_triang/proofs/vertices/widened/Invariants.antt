@@ -1,0 +1,5 @@
+use Rattle.std.proofs.Common.{◌≡◌, take}
+use Rattle.lt_triang.proofs.vertices.widened.Given as goal
+
+abbrev pub invariant-loop-coord : goal.invariant-loop-coord
+invariant-loop-coord l = l.all.items ≡ take l.coord-index l.x

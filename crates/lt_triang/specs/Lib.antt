@@ -1,0 +1,4 @@
+pub mod Bounds
+pub mod Flat
+pub mod Across
+pub mod Kept

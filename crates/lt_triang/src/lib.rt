@@ -1,0 +1,15 @@
+//! Classes of simplices, triangulations, and the neighbours of their facets.
+#![tactic(auto)]
+
+mod classes;
+mod dependencies;
+mod neighbours;
+mod sides;
+mod spans;
+mod triangulations;
+mod vertices;
+
+pub use classes::{Class, Flat};
+pub use neighbours::Neighbour;
+pub use spans::{are_near, span_limit};
+pub use triangulations::{TriangError, Triangulation};
