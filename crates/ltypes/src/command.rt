@@ -10,7 +10,7 @@ use crate::gate::Gate;
 use crate::printed::write_type;
 use crate::status::{Cause, Status};
 use lt_io::{Failed, Sink, Source};
-use lt_principal::{principal_form, principal_points};
+use lt_principal::{principal, principal_form};
 use lt_words::{Command, WordsError, read_words};
 use std::alloc::Global;
 use std::sync::Wait;
@@ -22,9 +22,9 @@ fn write_principal<K: Sink>(alloc: Global, d: u8, out: &mut K) -> Cause
     ensures answer { Answers (IsPrincipalText d) (K.held out.old) (K.held out.new) (K.faults out.old) (K.faults out.new) result }
 {
     let form = principal_form(d);
-    match principal_points(alloc, d) {
+    match principal(alloc, d) {
         Err(_) => Cause::Memory,
-        Ok(classes) => match write_type(out, d, form.numbers(), &classes) {
+        Ok(triangulation) => match write_type(out, d, form.numbers(), &triangulation) {
             Ok(()) => Cause::Done,
             Err(Failed) => Cause::WriteFault,
         },

@@ -2,13 +2,13 @@ ghost use Rattle.std.specs.Prelude.{◌≡◌, ◌+◌, ◌≤◌, ◌++◌, len
 ghost use Rattle.arrayvec.specs.ArrayVec.{array_vec_len};
 ghost use Rattle.lt_io.specs.Causes.{HasCause};
 ghost use Rattle.lt_io.specs.Bytes.{Wrote};
-ghost use Rattle.lt_principal.specs.Paths.{points_of};
 ghost use Rattle.ltypes.specs.Texts.{class_numbers, class_line, class_lines, type_text};
 
 use arrayvec::ArrayVec;
 use lt_io::{Failed, Sink};
 use lt_lattice::Point;
 use lt_lines::{write_count, write_line, write_numbers};
+use lt_triang::{Class, Triangulation};
 
 /// The room for the coordinates of a class, which has at most 7 points of at most 6 coordinates.
 const ROOM: usize = 42;
@@ -38,21 +38,22 @@ fn coordinates_of(class: &[Point]) -> ArrayVec<i128, ROOM>
 }
 
 /// Writes the line of a class.
-fn write_class<K: Sink>(out: &mut K, class: &[Point]) -> Result<(), Failed>
-    requires { length class.now ≤ 7 }
+fn write_class<K: Sink>(out: &mut K, class: &Class) -> Result<(), Failed>
     ensures bytes { Wrote (K.held out.old) (K.held out.new) result (class_line class.now) }
     ensures cause { HasCause (K.faults out.old) (K.faults out.new) result }
 {
-    write_numbers(out, coordinates_of(class).as_slice())
+    // It shows that there are at most 7 vertices.
+    let _dimension = class.dimension();
+    write_numbers(out, coordinates_of(class.vertices()).as_slice())
 }
 
 /// Writes a line for each class.
-fn write_classes<K: Sink>(out: &mut K, classes: &[ArrayVec<Point, 7>]) -> Result<(), Failed>
-    ensures bytes { Wrote (K.held out.old) (K.held out.new) result (class_lines (points_of classes.now)) }
+fn write_classes<K: Sink>(out: &mut K, triangulation: &Triangulation) -> Result<(), Failed>
+    ensures bytes { Wrote (K.held out.old) (K.held out.new) result (class_lines triangulation.now) }
     ensures cause { HasCause (K.faults out.old) (K.faults out.new) result }
 {
-    for class in classes {
-        write_class(out, class.as_slice())?;
+    for i in 0..triangulation.len() {
+        write_class(out, triangulation.class(i))?;
     }
     Ok(())
 }
@@ -62,13 +63,13 @@ pub fn write_type<K: Sink>(
     out: &mut K,
     d: u8,
     form: &[i128],
-    classes: &[ArrayVec<Point, 7>],
+    triangulation: &Triangulation,
 ) -> Result<(), Failed>
-    ensures bytes { Wrote (K.held out.old) (K.held out.new) result (type_text d form.now (points_of classes.now)) }
+    ensures bytes { Wrote (K.held out.old) (K.held out.new) result (type_text d form.now triangulation.now) }
     ensures cause { HasCause (K.faults out.old) (K.faults out.new) result }
 {
     write_count(out, b"dimension", d as u64)?;
     write_line(out, b"form", form)?;
-    write_count(out, b"simplices", classes.len() as u64)?;
-    write_classes(out, classes)
+    write_count(out, b"simplices", triangulation.len() as u64)?;
+    write_classes(out, triangulation)
 }
