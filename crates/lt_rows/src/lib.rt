@@ -1,0 +1,12 @@
+//! Tests of the crates below the top call: worked rows and vectors of numbers, linear systems, points, matrices, classes
+//! and triangulations. They stand in a crate of their own, since a crate with tests is proved twice.
+#![tactic(auto)]
+
+#[cfg(test)]
+mod geometry;
+#[cfg(test)]
+mod lattice;
+#[cfg(test)]
+mod numbers;
+#[cfg(test)]
+mod systems;
