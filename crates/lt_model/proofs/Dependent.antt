@@ -1,15 +1,14 @@
-use Rattle.std.proofs.Common.{◌≡◌, ◌≢◌, ℕ, zero, suc, ℤ, pos, negsuc, ◌+ℤ◌, ◌-ℤ◌, ◌*ℤ◌, ◌<ℤ◌, ◌≤ℤ◌, ◌<◌, ◌⊎◌, inl, inr, neg_ℤ, refl, ap, arith, sym, ◌∙◌, List, [], ◌∷◌, ◌++◌, length, map, get_or}
+use Rattle.std.proofs.Common.{◌≡◌, ◌≢◌, ℕ, zero, suc, ℤ, pos, negsuc, ◌+ℤ◌, ◌-ℤ◌, ◌*ℤ◌, ◌<◌, ◌⊎◌, inl, inr, neg_ℤ, refl, ap, arith, sym, ◌∙◌, List, [], ◌∷◌, length, map, get_or}
 use Rattle.std.proofs.lemmas.Int.{ints}
 use Rattle.std.specs.List.{AllByRecursion}
-use Rattle.std.proofs.Math.IntN.{*ℤ_comm, *ℤ-zero, zero-*ℤ}
-use Rattle.lt_model.proofs.Integers.{spread, triple_is, mul_add_z, add_mul_z, mul_assoc_z}
-use Rattle.lt_model.proofs.Vectors.{dot-plus, dot-scale, dot_comm}
+use Rattle.std.proofs.Math.IntN.{*ℤ_comm}
+use Rattle.lt_model.proofs.Integers.{spread, triple_is}
+use Rattle.lt_model.proofs.Vectors.{dot-plus, dot-scale}
 use Rattle.lt_model.proofs.Squares.{length-scale, length-plus}
-use Rattle.lt_model.proofs.Excess.{dot-combine, same_from_dots, plus-dot, scale-dot, dot-constant, dot-sum, map-same}
+use Rattle.lt_model.proofs.Excess.{dot-combine, scale-dot, dot-sum, map-same}
 use Rattle.lt_model.proofs.Walk.{dot-without, without-map, number_at-map, number_at-with_at, number_at-scale, without-with_at, length-with_at, length-without, length-map, length-combine}
-use Rattle.lt_model.proofs.Opposite.{length-zeros, zeros-dot}
-use Rattle.lt_model.specs.Vectors.{plus, minus, scale, dot, total, combine, zeros, unit}
-use Rattle.lt_model.specs.Forms.{value}
+use Rattle.lt_model.proofs.Opposite.{length-zeros}
+use Rattle.lt_model.specs.Vectors.{minus, scale, dot, combine, unit}
 use Rattle.lt_model.specs.Simplices.{AllOfDimension}
 use Rattle.lt_model.specs.Facets.{without, with_at, number_at}
 

@@ -1,12 +1,10 @@
-use Rattle.std.proofs.Common.{◌≡◌, ℕ, suc, ℤ, pos, negsuc, ◌+ℤ◌, ◌-ℤ◌, ◌*ℤ◌, ◌<ℤ◌, ◌≤ℤ◌, neg_ℤ, refl, ap, arith, sym, ◌∙◌, List, [], ◌∷◌, ◌++◌, length, map, take, drop}
+use Rattle.std.proofs.Common.{◌≡◌, ℕ, suc, ℤ, pos, ◌+ℤ◌, ◌*ℤ◌, refl, ap, arith, sym, ◌∙◌, List, [], ◌∷◌, ◌++◌, length, map, take, drop}
 use Rattle.std.proofs.lemmas.Int.{ints}
-use Rattle.std.specs.List.{AllByRecursion}
-use Rattle.std.proofs.Math.IntN.{*ℤ_comm, *ℤ-zero}
-use Rattle.lt_model.proofs.Integers.{spread, triple_is, mul_add_z, add_mul_z, mul_assoc_z}
-use Rattle.lt_model.proofs.Vectors.{dot-plus, dot-scale, dot_comm, plus_comm, plus_assoc, scale-plus, add-scale, scale-scale}
-use Rattle.lt_model.proofs.Squares.{value-sum, cross-scale, length-scale, length-plus}
-use Rattle.lt_model.specs.Vectors.{plus, minus, scale, dot, total, combine, zeros}
-use Rattle.lt_model.specs.Forms.{squares, value, cross, polar}
+use Rattle.lt_model.proofs.Integers.{spread}
+use Rattle.lt_model.proofs.Vectors.{dot-plus, dot-scale, dot_comm}
+use Rattle.lt_model.proofs.Squares.{value-sum, length-scale, length-plus}
+use Rattle.lt_model.specs.Vectors.{plus, scale, dot, total, combine}
+use Rattle.lt_model.specs.Forms.{value, cross, polar}
 use Rattle.lt_model.specs.Simplices.{AllOfDimension, IsExpression, excess, translate}
 
 pub dot-nil : (q : List ℤ) → dot q [] ≡ pos 0

@@ -1,17 +1,15 @@
-use Rattle.std.proofs.Common.{◌≡◌, ◌≢◌, ℕ, zero, suc, ℤ, pos, negsuc, ◌+ℤ◌, ◌-ℤ◌, ◌*ℤ◌, ◌<ℤ◌, ◌≤ℤ◌, ◌<◌, ◌⊎◌, inl, inr, neg_ℤ, refl, ap, arith, sym, ◌∙◌, List, [], ◌∷◌, ◌++◌, length, map, get_or}
+use Rattle.std.proofs.Common.{◌≡◌, ◌≢◌, ℕ, zero, suc, ℤ, pos, negsuc, ◌+ℤ◌, ◌*ℤ◌, ◌<ℤ◌, neg_ℤ, refl, ap, arith, sym, ◌∙◌, List, [], ◌∷◌, length, map}
 use Rattle.std.proofs.lemmas.Int.{ints}
-use Rattle.std.specs.List.{AllByRecursion}
-use Rattle.std.proofs.Math.IntN.{*ℤ_comm, *ℤ-zero, zero-*ℤ}
+use Rattle.std.proofs.Math.IntN.{*ℤ-zero, zero-*ℤ}
 use Rattle.lt_model.proofs.Integers.{spread, triple_is}
-use Rattle.lt_model.proofs.Vectors.{dot-plus, dot-scale, dot_comm}
+use Rattle.lt_model.proofs.Vectors.{dot-scale, dot_comm}
 use Rattle.lt_model.proofs.Squares.{length-scale, length-plus}
-use Rattle.lt_model.proofs.Excess.{dot-combine, same_from_dots, plus-dot, scale-dot, dot-constant, dot-nil}
-use Rattle.lt_model.proofs.Walk.{length-combine, length-map, IsWeighted}
+use Rattle.lt_model.proofs.Excess.{dot-combine, same_from_dots, plus-dot, scale-dot, dot-constant}
+use Rattle.lt_model.proofs.Walk.{length-combine, IsWeighted}
 use Rattle.lt_model.proofs.Opposite.{length-zeros, zeros-dot}
-use Rattle.lt_model.proofs.Dependent.{dependent, IsDependency, zero_or_not, length-map_vectors, map-map_vectors}
-use Rattle.lt_model.specs.Vectors.{plus, minus, scale, dot, total, combine, zeros, unit}
-use Rattle.lt_model.specs.Forms.{value}
-use Rattle.lt_model.specs.Simplices.{AllOfDimension, IsSimplex, IsExpression}
+use Rattle.lt_model.proofs.Dependent.{dependent, IsDependency, length-map_vectors}
+use Rattle.lt_model.specs.Vectors.{plus, scale, dot, total, combine, zeros}
+use Rattle.lt_model.specs.Simplices.{AllOfDimension, IsSimplex}
 use Rattle.lt_model.specs.Facets.{number_at}
 
 -- the point with 1 before its coordinates

@@ -1,15 +1,14 @@
-use Rattle.std.proofs.Common.{◌≡◌, ◌≢◌, ℕ, zero, suc, ℤ, pos, negsuc, ◌+ℤ◌, ◌-ℤ◌, ◌*ℤ◌, ◌<ℤ◌, ◌≤ℤ◌, ◌<◌, neg_ℤ, refl, ap, arith, sym, ◌∙◌, subst, List, [], ◌∷◌, ◌++◌, length, map, get_or, inl, inr}
+use Rattle.std.proofs.Common.{◌≡◌, ℕ, ℤ, pos, negsuc, ◌+ℤ◌, ◌*ℤ◌, ◌<◌, refl, ap, arith, sym, ◌∙◌, subst, List, [], ◌∷◌, length, map, inl, inr}
 use Rattle.std.proofs.lemmas.Int.{ints}
-use Rattle.std.specs.List.{AllByRecursion, Contains}
-use Rattle.lt_model.proofs.Integers.{spread, triple_is}
-use Rattle.lt_model.proofs.Vectors.{dot-plus, dot-scale, dot_comm}
+use Rattle.std.specs.List.{Contains}
+use Rattle.lt_model.proofs.Integers.{spread}
+use Rattle.lt_model.proofs.Vectors.{dot-plus, dot-scale}
 use Rattle.lt_model.proofs.Squares.{length-scale, length-plus}
-use Rattle.lt_model.proofs.Excess.{dot-combine, same_from_dots, dot-constant, dot-sum, map-map, map-same, length-translate, excess-moved}
+use Rattle.lt_model.proofs.Excess.{dot-combine, same_from_dots, dot-constant, dot-sum, map-map, length-translate}
 use Rattle.lt_model.proofs.Walk.{length-combine, IsWeighted}
 use Rattle.lt_model.proofs.Sets.{Contains-head, Contains-tail, Contains-cases, Contains-none}
-use Rattle.lt_model.specs.Vectors.{plus, minus, scale, dot, total, combine, zeros}
-use Rattle.lt_model.specs.Forms.{value}
-use Rattle.lt_model.specs.Simplices.{AllOfDimension, IsSimplex, IsExpression, IsStrictlyEmpty, excess, translate}
+use Rattle.lt_model.specs.Vectors.{plus, scale, dot, total, combine, zeros}
+use Rattle.lt_model.specs.Simplices.{AllOfDimension, IsSimplex, translate}
 
 pub translate_all : (d : ℕ) (p : List ℤ) (vs : List (List ℤ)) → length p ≡ d → AllOfDimension d vs → AllOfDimension d (translate p vs)
 translate_all d p [] lp h = tt

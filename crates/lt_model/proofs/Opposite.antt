@@ -1,14 +1,12 @@
-use Rattle.std.proofs.Common.{◌≡◌, ℕ, zero, suc, ℤ, pos, negsuc, ◌+ℤ◌, ◌-ℤ◌, ◌*ℤ◌, ◌<ℤ◌, ◌≤ℤ◌, ◌<◌, neg_ℤ, refl, ap, arith, sym, ◌∙◌, List, [], ◌∷◌, ◌++◌, length, map, get_or}
+use Rattle.std.proofs.Common.{◌≡◌, ℕ, zero, suc, ℤ, pos, negsuc, ◌+ℤ◌, ◌-ℤ◌, ◌*ℤ◌, ◌<◌, refl, ap, arith, sym, ◌∙◌, List, [], ◌∷◌, length, map, get_or}
 use Rattle.std.proofs.lemmas.Int.{ints}
-use Rattle.std.proofs.Math.IntN.{*ℤ_comm, *ℤ-zero}
 use Rattle.lt_model.proofs.Integers.{spread, triple_is, mul_add_z}
-use Rattle.lt_model.proofs.Vectors.{dot-plus, dot-scale, dot_comm}
-use Rattle.lt_model.proofs.Squares.{parallelogram, length-scale, length-plus}
-use Rattle.lt_model.proofs.Excess.{dot-combine, same_from_dots, plus-dot, scale-dot, dot-constant}
-use Rattle.lt_model.proofs.Walk.{number_at-map, length-combine, length-map}
-use Rattle.lt_model.specs.Vectors.{plus, minus, scale, dot, total, combine, zeros, unit}
+use Rattle.lt_model.proofs.Squares.{parallelogram}
+use Rattle.lt_model.proofs.Excess.{plus-dot, scale-dot}
+use Rattle.lt_model.proofs.Walk.{number_at-map, length-map}
+use Rattle.lt_model.specs.Vectors.{plus, minus, scale, dot, zeros, unit}
 use Rattle.lt_model.specs.Forms.{value}
-use Rattle.lt_model.specs.Simplices.{AllOfDimension, IsExpression, excess}
+use Rattle.lt_model.specs.Simplices.{excess}
 use Rattle.lt_model.specs.Facets.{number_at}
 
 pub length-zeros : (n : ℕ) → length (zeros n) ≡ n

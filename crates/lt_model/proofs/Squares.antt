@@ -1,9 +1,9 @@
-use Rattle.std.proofs.Common.{◌≡◌, ℕ, suc, ℤ, pos, negsuc, ◌+ℤ◌, ◌-ℤ◌, ◌*ℤ◌, neg_ℤ, refl, ap, arith, sym, ◌∙◌, List, [], ◌∷◌, ◌++◌, length, length-append, max}
+use Rattle.std.proofs.Common.{◌≡◌, suc, ℤ, pos, negsuc, ◌+ℤ◌, ◌-ℤ◌, ◌*ℤ◌, refl, ap, arith, sym, ◌∙◌, List, [], ◌∷◌, ◌++◌, length}
 use Rattle.std.proofs.lemmas.Int.{ints}
-use Rattle.std.proofs.Math.IntN.{*ℤ_comm, *ℤ-zero}
-use Rattle.lt_model.proofs.Integers.{spread, triple_is, mul_add_z, add_mul_z, mul_assoc_z}
-use Rattle.lt_model.proofs.Vectors.{dot-plus, dot-scale, dot_comm, plus_comm, plus_assoc, scale-plus, add-scale, scale-scale}
-use Rattle.lt_model.specs.Vectors.{plus, minus, scale, dot, total, combine, zeros}
+use Rattle.std.proofs.Math.IntN.{*ℤ_comm}
+use Rattle.lt_model.proofs.Integers.{spread, triple_is, mul_assoc_z}
+use Rattle.lt_model.proofs.Vectors.{dot-plus, dot-scale, plus_comm, plus_assoc, scale-plus, add-scale, scale-scale}
+use Rattle.lt_model.specs.Vectors.{plus, minus, scale}
 use Rattle.lt_model.specs.Forms.{squares, cross, polar, value}
 
 ring4 : (k a : ℤ) → k *ℤ a *ℤ (k *ℤ a) ≡ k *ℤ k *ℤ (a *ℤ a)

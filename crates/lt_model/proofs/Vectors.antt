@@ -1,8 +1,8 @@
-use Rattle.std.proofs.Common.{◌≡◌, ℕ, suc, ℤ, pos, negsuc, ◌+ℤ◌, ◌-ℤ◌, ◌*ℤ◌, neg_ℤ, refl, ap, arith, sym, ◌∙◌, List, [], ◌∷◌, ◌++◌, length}
+use Rattle.std.proofs.Common.{◌≡◌, ℤ, ◌+ℤ◌, ◌*ℤ◌, refl, ap, arith, sym, ◌∙◌, List, [], ◌∷◌}
 use Rattle.std.proofs.lemmas.Int.{ints}
 use Rattle.std.proofs.Math.IntN.{*ℤ_comm, *ℤ-zero}
 use Rattle.lt_model.proofs.Integers.{spread, triple_is, mul_add_z, add_mul_z, mul_assoc_z}
-use Rattle.lt_model.specs.Vectors.{plus, minus, scale, dot, total, combine, zeros}
+use Rattle.lt_model.specs.Vectors.{plus, scale, dot}
 use Rattle.lt_model.specs.Forms.{squares, value}
 
 pub dot-plus : (q x y : List ℤ) → dot q (plus x y) ≡ dot q x +ℤ dot q y

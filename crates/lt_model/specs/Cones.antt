@@ -1,5 +1,5 @@
 -- Secondary cones with a certificate for each regulator. Schürmann, chapter 4; the certificates are this project's own.
-use Rattle.std.specs.Prelude.{ℕ, zero, suc, ℤ, pos, negsuc, ◌+ℤ◌, ◌<ℤ◌, ◌≤ℤ◌, ◌<◌, ◌≤◌, ◌^◌, ◌≢◌, nat_abs, List, [], ◌∷◌, map, ◌≡◌, length, get_or}
+use Rattle.std.specs.Prelude.{ℕ, ℤ, pos, ◌<ℤ◌, ◌<◌, ◌≤◌, ◌^◌, ◌≢◌, nat_abs, List, [], ◌∷◌, map, ◌≡◌, length, get_or}
 use Rattle.std.specs.List.{All}
 use Rattle.std.specs.List.Sorted.{IsStrictlySortedBy}
 use Rattle.std.specs.Ordering.{nat_cmp}
