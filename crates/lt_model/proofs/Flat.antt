@@ -1,7 +1,7 @@
 -- The rows of a matrix that is written row by row, and back; and a matrix product, number by number.
-use Rattle.std.proofs.Common.{◌≡◌, ℕ, zero, suc, ℤ, pos, ◌+ℤ◌, ◌*ℤ◌, ◌+◌, ◌*◌, ◌<◌, ◌≤◌, ◌≢◌, refl, ap, arith, sym, ◌∙◌, List, [], ◌∷◌, ◌++◌, length, map, take, drop, get_or, append_assoc}
+use Rattle.std.proofs.Common.{◌≡◌, ℕ, zero, suc, ℤ, pos, ◌+◌, ◌*◌, ◌<◌, ◌≤◌, ◌≢◌, refl, ap, arith, sym, ◌∙◌, List, [], ◌∷◌, ◌++◌, length, map, take, drop, get_or}
 use Rattle.std.proofs.lemmas.List.{length-append, length-drop, length-take-le, take-append-drop, drop-drop, get_or-take, get_or-drop, take_at, drop_at}
-use Rattle.lt_model.specs.Vectors.{plus, scale, dot, zeros, unit, combine}
+use Rattle.lt_model.specs.Vectors.{scale, dot, unit, combine}
 use Rattle.lt_model.specs.Simplices.{AllOfDimension}
 use Rattle.lt_model.specs.Facets.{number_at}
 use Rattle.lt_model.specs.Matrices.{times, identity, IsSquare}

@@ -87,9 +87,8 @@ impl Class {
     pub fn copy(&self) -> Class
         ensures { result ≡ self.now }
     {
-        let _dimension = self.dimension();
         Class {
-            points: copies(self.vertices()),
+            points: copies(self.points.as_slice()),
         }
     }
 
@@ -131,8 +130,7 @@ impl Class {
         ensures value { IfSome result (λ r. r.items ≡ translate p.now self.now) }
         ensures within { IsSome result ↔ AreWithin (2 ^ 20) (translate p.now self.now) }
     {
-        let _dimension = self.dimension();
-        moved_by(self.vertices(), p)
+        moved_by(self.points.as_slice(), p)
     }
 
     /// Facet `i`, which is opposite to vertex `i`: its vertices in ascending order, moved so that the least is 0, and that least vertex.
@@ -141,8 +139,7 @@ impl Class {
         ensures least { result.1 ≡ get_or (without i self.now) 0 [] }
         ensures moved { result.0.items ≡ translate (scale (negsuc 0) (get_or (without i self.now) 0 [])) (without i self.now) }
     {
-        let _dimension = self.dimension();
-        let rest = others(self.vertices(), i);
+        let rest = others(self.points.as_slice(), i);
         let least = first_of(rest.as_slice());
         (moved_back::<6>(rest.as_slice(), &least), least)
     }

@@ -84,8 +84,8 @@ pub fn moved_by(points: &[Point], by: &Point) -> Option<ArrayVec<Point, 7>>
     ensures within { IsSome result ↔ AreWithin (2 ^ 20) (translate by.now points.now) }
 {
     let mut all: ArrayVec<Point, 7> = ArrayVec::new();
-    for i in 0..points.len() {
-        match points[i].plus(by) {
+    for point in points {
+        match point.plus(by) {
             Some(moved) => all.push(moved),
             None => return None,
         }

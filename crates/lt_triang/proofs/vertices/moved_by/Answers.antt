@@ -12,4 +12,4 @@ clash e =
 
 pub returns-in-None-clause-within : goal.returns-in-None-clause-within
 returns-in-None-clause-within c =
-    (λ e. clash e, λ h. c.in-None.ensures.within.1 (subst (λ (v : List ℤ). All (IsWithin (2 ^ 20)) (plus v c.args.by.now)) (sym c.index-points-i.is) (each_moved (2 ^ 20) c.loop-i.i c.args.by.now c.args.points.now c.index-points-i.result h (omega arith))))
+    (λ e. clash e, λ h. c.in-None.ensures.within.1 (subst (λ (v : List ℤ). All (IsWithin (2 ^ 20)) (plus v c.args.by.now)) (sym c.point-item.is) (each_moved (2 ^ 20) c.loop-point.point-index c.args.by.now c.args.points.now c.point-item.result h (omega arith))))

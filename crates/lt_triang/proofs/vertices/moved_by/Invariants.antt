@@ -3,8 +3,8 @@ use Rattle.lt_model.specs.Simplices.{translate}
 use Rattle.lt_triang.specs.Bounds.{AreWithin}
 use Rattle.lt_triang.proofs.vertices.moved_by.Given as goal
 
-abbrev pub invariant-loop-i : goal.invariant-loop-i
-invariant-loop-i l = record {
-  so_far : l.all.items ≡ translate l.by (take l.i l.points);
-  within : AreWithin (2 ^ 20) (translate l.by (take l.i l.points));
+abbrev pub invariant-loop-point : goal.invariant-loop-point
+invariant-loop-point l = record {
+  so_far : l.all.items ≡ translate l.by (take l.point-index l.points);
+  within : AreWithin (2 ^ 20) (translate l.by (take l.point-index l.points));
 }
