@@ -1,3 +1,4 @@
+-- One denominator serves the expressions of all points over a simplex.
 use Rattle.std.proofs.Common.{◌≡◌, ℕ, zero, suc, ℤ, pos, ◌+ℤ◌, ◌*ℤ◌, ◌<ℤ◌, refl, ap, arith, sym, ◌∙◌, List, [], ◌∷◌, length, map}
 use Rattle.std.proofs.lemmas.Int.{ints}
 use Rattle.lt_model.proofs.Integers.{spread, triple_is, mul_assoc_z, mul_add_z}

@@ -1,3 +1,4 @@
+-- Laws of Delaunay triangulations.
 use Rattle.std.specs.Prelude.{ℕ, ℤ, List, length, ◌<◌, ◌≡◌}
 use Rattle.std.specs.List.Sorted.{IsStrictlySortedBy}
 use Rattle.lt_model.specs.Order.{simplex_cmp}

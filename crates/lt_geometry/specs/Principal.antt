@@ -1,3 +1,4 @@
+-- Laws of the principal triangulation, and its regulators.
 use Rattle.std.specs.Prelude.{ℕ, zero, suc, ℤ, pos, negsuc, ◌+ℤ◌, ◌<◌, ◌≤◌, ◌⊎◌, neg_ℤ, get_or, drop, List, ◌≡◌, ◌↔◌, length}
 use Rattle.lt_model.specs.Vectors.{scale, dot, unit, ones}
 use Rattle.lt_model.specs.Forms.{cross, numbers_of_form}

@@ -1,3 +1,4 @@
+-- Sums over the vertices of a simplex, and the excess under translation.
 use Rattle.std.proofs.Common.{◌≡◌, ℕ, suc, ℤ, pos, ◌+ℤ◌, ◌*ℤ◌, refl, ap, arith, sym, ◌∙◌, List, [], ◌∷◌, ◌++◌, length, map, take, drop}
 use Rattle.std.proofs.lemmas.Int.{ints}
 use Rattle.lt_model.proofs.Integers.{spread}

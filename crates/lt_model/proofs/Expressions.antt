@@ -1,3 +1,4 @@
+-- Every rational point has an expression over a simplex, and its expressions are multiples of each other.
 use Rattle.std.proofs.Common.{◌≡◌, ◌≢◌, ℕ, zero, suc, ℤ, pos, negsuc, ◌+ℤ◌, ◌*ℤ◌, ◌<ℤ◌, neg_ℤ, refl, ap, arith, sym, ◌∙◌, List, [], ◌∷◌, length, map}
 use Rattle.std.proofs.lemmas.Int.{ints}
 use Rattle.std.proofs.Math.IntN.{*ℤ-zero, zero-*ℤ}

@@ -1,3 +1,4 @@
+-- Unit vectors, and the excesses of two points opposite at a vertex.
 use Rattle.std.proofs.Common.{◌≡◌, ℕ, zero, suc, ℤ, pos, negsuc, ◌+ℤ◌, ◌-ℤ◌, ◌*ℤ◌, ◌<◌, refl, ap, arith, sym, ◌∙◌, List, [], ◌∷◌, length, map, get_or}
 use Rattle.std.proofs.lemmas.Int.{ints}
 use Rattle.lt_model.proofs.Integers.{spread, triple_is, mul_add_z}

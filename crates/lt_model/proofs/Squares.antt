@@ -1,3 +1,4 @@
+-- The products of the coordinates of sums and multiples, and the parallelogram law.
 use Rattle.std.proofs.Common.{◌≡◌, suc, ℤ, pos, negsuc, ◌+ℤ◌, ◌-ℤ◌, ◌*ℤ◌, refl, ap, arith, sym, ◌∙◌, List, [], ◌∷◌, ◌++◌, length}
 use Rattle.std.proofs.lemmas.Int.{ints}
 use Rattle.std.proofs.Math.IntN.{*ℤ_comm}

@@ -1,3 +1,4 @@
+-- One step of a walk: the numbers of a point over the simplex beyond a facet.
 use Rattle.std.proofs.Common.{◌≡◌, ℕ, zero, suc, ℤ, pos, negsuc, ◌+ℤ◌, ◌-ℤ◌, ◌*ℤ◌, ◌<ℤ◌, ◌<◌, neg_ℤ, refl, ap, arith, sym, ◌∙◌, List, [], ◌∷◌, length, map, get_or}
 use Rattle.std.proofs.lemmas.Int.{ints}
 use Rattle.std.proofs.Math.IntN.{*ℤ-zero}
