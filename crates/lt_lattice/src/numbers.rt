@@ -1,7 +1,6 @@
 //! Lists of exact numbers.
 
-ghost use Rattle.std.specs.Prelude.{◌≡◌, ◌≤◌, ◌<◌, ◌^◌, ℤ, List, length, IsTrue, ◌↔◌};
-ghost use Rattle.std.specs.List.{All};
+ghost use Rattle.std.specs.Prelude.{◌≡◌, ◌≤◌, ◌<◌, ◌^◌, length};
 ghost use Rattle.lt_model.specs.Vectors.{dot};
 ghost use Rattle.lt_model.specs.Forms.{numbers_of_form};
 ghost use Rattle.lt_lattice.specs.Ranges.{IsFormLength, size_of_dot};

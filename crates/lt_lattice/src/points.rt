@@ -1,6 +1,6 @@
 //! Points of whole coordinates.
 
-ghost use Rattle.std.specs.Prelude.{◌≡◌, ◌<◌, ◌≤◌, ◌^◌, ◌+◌, ℕ, ℤ, pos, List, length, get_or, IsTrue, IsSome, IfSome, ◌↔◌};
+ghost use Rattle.std.specs.Prelude.{◌≡◌, ◌<◌, ◌≤◌, ◌^◌, ℤ, pos, List, length, get_or, IsTrue, IsSome, IfSome, ◌↔◌};
 ghost use Rattle.std.specs.List.{All};
 ghost use Rattle.lt_model.specs.Vectors.{plus, minus, zeros};
 ghost use Rattle.lt_lattice.specs.Ranges.{IsWithin};

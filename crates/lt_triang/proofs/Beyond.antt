@@ -1,13 +1,12 @@
 -- On which side of a facet a point lies, by the numbers of a solution.
 use Rattle.std.proofs.Common.{◌≡◌, ℕ, zero, suc, ℤ, pos, neg_ℤ, ◌+ℤ◌, ◌-ℤ◌, ◌*ℤ◌, ◌<ℤ◌, ◌≤ℤ◌, refl, ap, arith, sym, ◌∙◌, List, [], ◌∷◌, length, drop}
-use Rattle.std.proofs.lemmas.Int.{ints}
+use Rattle.std.proofs.lemmas.Int.{ints, by_lt_z}
 use Rattle.lt_model.proofs.Integers.{mul_neg_z}
 use Rattle.lt_model.proofs.Vectors.{dot_comm, dot-plus, dot-scale}
 use Rattle.lt_model.proofs.Squares.{length-scale}
 use Rattle.lt_model.proofs.Excess.{same_from_dots}
 use Rattle.lt_model.proofs.Walk.{length-combine, IsWeighted, number_at-scale, mul-positive}
 use Rattle.lt_model.proofs.Inequalities.{mul_nonneg_z}
-use Rattle.std.proofs.lemmas.Int.{by_lt_z}
 use Rattle.lt_model.proofs.Opposite.{length-zeros, zeros-dot}
 use Rattle.lt_model.proofs.Expressions.{one_expression}
 use Rattle.lt_model.specs.Facets.{number_at, IsBeyond}

@@ -1,18 +1,14 @@
 -- The differences of points from the first, written number by number.
 use Rattle.std.proofs.Common.{◌≡◌, ℕ, zero, suc, ℤ, negsuc, ◌+◌, ◌-◌, ◌*◌, ◌<◌, ◌≤◌, refl, ap, arith, sym, ◌∙◌, List, [], ◌∷◌, ◌++◌, length, take, drop, mul-le-mul}
 use Rattle.std.proofs.lemmas.List.{length-append, length-drop}
-use Rattle.lt_model.specs.Vectors.{scale}
-use Rattle.lt_model.specs.Simplices.{AllOfDimension, translate}
-use Rattle.lt_model.specs.Flat.{flat}
-use Rattle.lt_model.proofs.Flat.{length-flat}
+use Rattle.lt_model.specs.Vectors.{scale, zeros}
+use Rattle.lt_model.specs.Simplices.{AllOfDimension, translate, IsClass}
+use Rattle.lt_model.specs.Flat.{flat, first_rows}
+use Rattle.lt_model.proofs.Flat.{length-flat, rows-flat}
 use Rattle.lt_model.proofs.Squares.{length-scale}
 use Rattle.lt_model.proofs.Excess.{length-translate}
 use Rattle.lt_model.proofs.Moved.{translate_all}
-use Rattle.lt_model.specs.Vectors.{zeros}
-use Rattle.lt_model.specs.Simplices.{IsClass}
 use Rattle.lt_model.specs.Matrices.{IsSquare}
-use Rattle.lt_model.specs.Flat.{first_rows}
-use Rattle.lt_model.proofs.Flat.{rows-flat}
 use Rattle.std.specs.List.{All, AllByRecursion}
 use Rattle.std.proofs.lemmas.List.Elements.{All-nil, All-append}
 use Rattle.lt_solve.specs.Systems.{chunks}

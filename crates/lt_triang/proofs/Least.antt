@@ -12,7 +12,7 @@ use Rattle.lt_model.proofs.Vectors.{dot_comm, dot-plus, dot-scale}
 use Rattle.lt_model.proofs.Squares.{length-scale, length-plus}
 use Rattle.lt_model.proofs.Excess.{same_from_dots}
 use Rattle.lt_model.proofs.Translates.{ascending_translate}
-use Rattle.lt_model.proofs.Moved.{simplex_moved, translate-back}
+use Rattle.lt_model.proofs.Moved.{simplex_moved, translate-back, Contains-translate}
 use Rattle.lt_model.proofs.Opposite.{length-zeros, zeros-dot}
 use Rattle.lt_model.specs.Order.{number_list_cmp}
 use Rattle.lt_model.specs.Vectors.{plus, minus, scale, dot, zeros}
@@ -20,7 +20,6 @@ use Rattle.lt_model.specs.Simplices.{AllOfDimension, AreIndependent, IsSimplex, 
 use Rattle.lt_triang.specs.Flat.{IsClassAt}
 use Rattle.lt_triang.proofs.Permuted.{independent_permuted}
 use Rattle.lt_lattice.specs.Ranges.{IsWithin}
-use Rattle.lt_model.proofs.Moved.{Contains-translate}
 use Rattle.lt_triang.specs.Bounds.{AreNear}
 use Rattle.lt_triang.proofs.Independent.{strictly_from_sorted, opposite_twice}
 

@@ -1,6 +1,6 @@
 //! Affine dependencies of points from the linear ones of their differences.
 
-ghost use Rattle.std.specs.Prelude.{◌≡◌, ◌≢◌, ◌≤◌, ◌^◌, ◌⊎◌, ◌<ℤ◌, neg_ℤ, ℤ, pos, negsuc, List, ◌∷◌, length, nat_abs};
+ghost use Rattle.std.specs.Prelude.{◌≡◌, ◌≢◌, ◌≤◌, ◌^◌, ◌⊎◌, ◌<ℤ◌, neg_ℤ, ℤ, pos, negsuc, ◌∷◌, length, nat_abs};
 ghost use Rattle.std.specs.List.{All};
 ghost use Rattle.lt_model.specs.Vectors.{scale, total};
 ghost use Rattle.lt_model.specs.Cones.{AreBelow};

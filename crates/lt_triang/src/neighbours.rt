@@ -1,6 +1,6 @@
 //! The first member of a list of classes that lies across a facet.
 
-ghost use Rattle.std.specs.Prelude.{◌≡◌, ◌<◌, ◌≤◌, ◌+◌, ◌^◌, suc, ℕ, ℤ, List, [], length, get_or, IsTrue, MatchOption, ◌↔◌};
+ghost use Rattle.std.specs.Prelude.{◌≡◌, ◌<◌, ◌≤◌, ◌^◌, suc, ℕ, [], length, get_or, IsTrue, MatchOption, ◌↔◌};
 ghost use Rattle.std.specs.List.{All, Contains};
 ghost use Rattle.lt_model.specs.Limits.{span_limit};
 ghost use Rattle.lt_model.specs.Vectors.{plus, minus};

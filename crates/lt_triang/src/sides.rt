@@ -1,6 +1,6 @@
 //! On which side of a facet a point lies.
 
-ghost use Rattle.std.specs.Prelude.{◌≡◌, ◌<◌, ◌≤◌, ◌*◌, suc, ◌<ℤ◌, ◌-ℤ◌, ℤ, pos, List, ◌∷◌, length, IsTrue, ◌↔◌};
+ghost use Rattle.std.specs.Prelude.{◌≡◌, ◌<◌, ◌≤◌, ◌*◌, suc, ◌<ℤ◌, ◌-ℤ◌, ℤ, pos, ◌∷◌, length, IsTrue, ◌↔◌};
 ghost use Rattle.std.specs.List.{All};
 ghost use Rattle.lt_model.specs.Limits.{span_limit};
 ghost use Rattle.lt_model.specs.Vectors.{total};

@@ -1,6 +1,6 @@
 //! How far the vertices of classes lie apart.
 
-ghost use Rattle.std.specs.Prelude.{◌≡◌, ◌^◌, ◌*◌, ◌-◌, ◌≤◌, ℕ, ℤ, pos, List, length, map, IsTrue, ◌↔◌};
+ghost use Rattle.std.specs.Prelude.{◌≡◌, ◌^◌, ◌*◌, ◌-◌, ◌≤◌, pos, length, map, IsTrue, ◌↔◌};
 ghost use Rattle.std.specs.List.{All};
 ghost use Rattle.lt_model.specs.Limits as limits;
 ghost use Rattle.lt_model.specs.Limits.{greatest, gap, class_span};

@@ -1,6 +1,6 @@
 //! Triangulations: classes that are closed under facets.
 
-ghost use Rattle.std.specs.Prelude.{◌≡◌, ◌<◌, ◌-◌, suc, ℕ, ℤ, pos, List, [], length, get_or, map, IfOk, MatchOption, ◌↔◌};
+ghost use Rattle.std.specs.Prelude.{◌≡◌, ◌<◌, ◌-◌, suc, ℕ, ℤ, pos, List, [], length, get_or, IfOk, MatchOption, ◌↔◌};
 ghost use Rattle.std.specs.List.{Contains};
 ghost use Rattle.std.specs.List.Sorted.{IsStrictlySortedBy};
 ghost use Rattle.lt_model.specs.Limits.{span};
