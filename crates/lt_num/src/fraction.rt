@@ -1,6 +1,6 @@
 //! Fractions of whole numbers of 128 bits.
 
-ghost use Rattle.std.specs.Prelude.{◌≡◌, ◌≢◌, ◌≤◌, ◌<◌, ◌^◌, ℕ, ℤ, pos, neg_ℤ, ◌+ℤ◌, ◌*ℤ◌, ◌<ℤ◌, ◌≤ℤ◌, cond, Bool, unsigned_abs, FitsSigned, MatchResult, IsOk};
+ghost use Rattle.std.specs.Prelude.{◌≡◌, ◌≢◌, ◌<◌, ℤ, pos, neg_ℤ, ◌*ℤ◌, ◌<ℤ◌, cond, unsigned_abs, FitsSigned, MatchResult, IsOk};
 ghost use Rattle.std.specs.Int.{IsGcd, w128};
 ghost use Rattle.std.specs.Ordering.{MatchOrdering};
 ghost use Rattle.lt_num.specs.Fractions.{Ratio, IsReduced, IsQuotient, IsTooLarge, AreRests, IsSumWithin, IsSum, IsProduct, Fits, signed_ratio};
