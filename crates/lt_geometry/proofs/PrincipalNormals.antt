@@ -26,34 +26,10 @@ use Rattle.lt_geometry.proofs.Closed.{three, three-dot, IsThird, third_expressio
 use Rattle.lt_geometry.proofs.Neighbours.{HasNeighbour, has_neighbour, first, middle, down_from, down_order, principal_paving}
 use Rattle.lt_geometry.proofs.Unique.{one_neighbour, weighted}
 use Rattle.lt_geometry.proofs.Primitive.{same_primitive, primitive_from_one}
+use Rattle.lt_geometry.proofs.Normals.{normal_dot, length-normal}
 use Rattle.lt_geometry.proofs.Products.{product_form, length-product, less_square, pair_at_less, own_at_less, pair_at, length-pair, length-own, pair_one, own_one}
 
--- ---- the excess as a linear function of the form
-
-pub normal_dot : (q : List ℤ) (vs : List (List ℤ)) (x : List ℤ) (c : ℤ) (b : List ℤ) → dot q (excess_normal vs x c b) ≡ excess q vs x c b
-normal_dot q vs x c b =
-    let e1 = dot-plus q (scale c (squares x)) (scale (negsuc 0) (combine b (map squares vs))) in
-    let e2 = dot-scale q c (squares x) in
-    let e3 = dot-scale q (negsuc 0) (combine b (map squares vs)) in
-    let e4 : dot q (combine b (map squares vs)) ≡ dot b (map (value q) vs) = dot-combine q b (map squares vs) ∙ ap (dot b) (map-map_vectors (dot q) squares vs) in
-    omega (arith, ints, e1, e2, e3, e4)
-
-pub length-squares : (d : ℕ) (x : List ℤ) → length x ≡ d → length (squares x) ≡ numbers_of_form d
-length-squares zero [] l = refl
-length-squares zero (a ∷ x) l = absurd (omega arith)
-length-squares (suc d) [] l = absurd (omega arith)
-length-squares (suc d) (a ∷ x) l = omega (arith, length-append (scale a x) (squares x), length-scale a x, length-squares d x (omega arith))
-
-all_squares : (d : ℕ) (vs : List (List ℤ)) → AllOfDimension d vs → AllOfDimension (numbers_of_form d) (map squares vs)
-all_squares d [] h = tt
-all_squares d (v ∷ vs) h = (length-squares d v h.0, all_squares d vs h.1)
-
-pub length-normal : (d : ℕ) (vs : List (List ℤ)) (x : List ℤ) (c : ℤ) (b : List ℤ) → AllOfDimension d vs → 0 < length vs → length x ≡ d → length b ≡ length vs → length (excess_normal vs x c b) ≡ numbers_of_form d
-length-normal d vs x c b all some lx lb =
-    let l1 : length (scale c (squares x)) ≡ numbers_of_form d = length-scale c (squares x) ∙ length-squares d x lx in
-    let lm = length-map_vectors squares vs in
-    let l2 : length (scale (negsuc 0) (combine b (map squares vs))) ≡ numbers_of_form d = length-scale (negsuc 0) (combine b (map squares vs)) ∙ length-combine (numbers_of_form d) b (map squares vs) (all_squares d vs all) (lb ∙ sym lm) (omega (arith, lm)) in
-    length-plus (scale c (squares x)) (scale (negsuc 0) (combine b (map squares vs))) (l1 ∙ sym l2) ∙ l1
+-- ---- the stated normals
 
 pub length-stated : (d : ℕ) (n : List ℤ) → IsPrincipalNormal d n → length n ≡ numbers_of_form d
 length-stated d n (inl h) = ap length h.4 ∙ length-pair d h.0 h.1
