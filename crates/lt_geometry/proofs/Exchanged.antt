@@ -1,5 +1,5 @@
 -- Cells, and the exchanged simplices of the model.
-use Rattle.std.proofs.Common.{List, [], ◌∷◌, length, map, get_or, ◌≡◌, ℕ, zero, suc, ◌<◌, ◌≤◌, refl, sym, ◌∙◌, ap, ap₂, subst, arith, ℤ, pos, negsuc, neg_ℤ, ◌+ℤ◌, ◌-ℤ◌, ◌*ℤ◌, ◌<ℤ◌, length-append}
+use Rattle.std.proofs.Common.{List, [], ◌∷◌, length, map, get_or, ◌≡◌, ℕ, zero, suc, ◌<◌, ◌≤◌, refl, sym, ◌∙◌, ap, ap₂, subst, arith, ℤ, pos, negsuc, neg_ℤ, ◌+ℤ◌, ◌-ℤ◌, ◌*ℤ◌, ◌<ℤ◌}
 use Rattle.std.proofs.lemmas.Int.{ints}
 use Rattle.std.specs.List.{Contains}
 use Rattle.lt_model.proofs.Ring.{ring, var, num, neg, ◌⊗◌}
@@ -17,19 +17,17 @@ use Rattle.lt_geometry.proofs.Normals.{length-normal, normal_value}
 use Rattle.lt_geometry.proofs.Pairs.{Outer, outer, AtPlace, number_at_place, opp_beyond, unique, row_excess, class_points, base_placed}
 use Rattle.lt_geometry.proofs.ClosedFlips.{Seat, find_seat, contains_alike}
 use Rattle.lt_geometry.proofs.HasClasses.{alike_members, dot_zeros}
-use Rattle.lt_model.specs.Vectors.{scale, dot, zeros, total, combine}
-use Rattle.lt_model.specs.Forms.{value, squares, numbers_of_form}
-use Rattle.lt_model.specs.Simplices.{AllOfDimension, IsClass, IsExpression, translate}
+use Rattle.lt_model.specs.Vectors.{scale, dot, zeros, total}
+use Rattle.lt_model.specs.Forms.{value, numbers_of_form}
+use Rattle.lt_model.specs.Simplices.{IsClass, IsExpression, translate}
 use Rattle.lt_model.specs.Facets.{without, number_at, IsBeyond, IsNeighbour}
 use Rattle.lt_model.specs.Triangulations.{IsDelaunay}
 use Rattle.lt_model.specs.Walls.{IsRegulator, IsPair, excess_normal}
 use Rattle.lt_model.specs.Flips.{IsExchanged}
 use Rattle.lt_model.proofs.Vectors.{dot-scale}
-use Rattle.lt_model.proofs.Squares.{length-scale, length-plus}
+use Rattle.lt_model.proofs.Squares.{length-scale}
 use Rattle.lt_model.proofs.Excess.{dot-combine, dot-constant, scale-dot}
-use Rattle.lt_model.proofs.Walk.{length-combine}
 use Rattle.lt_geometry.proofs.WalkEnds.{not_vertex}
-use Rattle.lt_model.proofs.Dependent.{length-map_vectors}
 
 -- the setting, with Placed and IsRegulator
 abbrev pub Walls : (d : ℕ) (two : 2 ≤ d) (t : List (List (List ℤ))) (q w : Form d) (n : List ℤ) → Type 0

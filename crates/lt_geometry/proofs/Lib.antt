@@ -15,6 +15,7 @@ pub mod Normals
 pub mod Products
 pub mod PrincipalNormals
 pub mod Classes
+pub mod Sides
 pub mod Plane
 pub mod PlanePairs
 pub mod Exchanges

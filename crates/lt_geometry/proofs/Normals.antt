@@ -1,5 +1,5 @@
 -- The excess as a linear function of the form.
-use Rattle.std.proofs.Common.{◌≡◌, ℕ, zero, suc, ℤ, pos, negsuc, ◌<◌, ap, arith, sym, ◌∙◌, refl, List, [], ◌∷◌, length, length-append, map}
+use Rattle.std.proofs.Common.{◌≡◌, ℕ, zero, suc, ℤ, negsuc, ◌<◌, ap, arith, sym, ◌∙◌, refl, List, [], ◌∷◌, length, length-append, map}
 use Rattle.std.proofs.lemmas.Int.{ints}
 use Rattle.lt_model.proofs.Squares.{length-scale, length-plus}
 use Rattle.lt_model.proofs.Vectors.{dot-plus, dot-scale, dot_comm}

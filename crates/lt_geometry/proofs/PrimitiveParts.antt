@@ -1,16 +1,13 @@
 -- Each list of numbers with a positive value is a multiple of a primitive one.
-use Rattle.std.proofs.Common.{List, [], ◌∷◌, length, map, ◌≡◌, ◌≢◌, ℕ, zero, suc, ◌<◌, ◌≤◌, ◌*◌, ◌⊎◌, inl, inr, refl, sym, ◌∙◌, ap, ap₂, arith, ℤ, pos, negsuc, neg_ℤ, ◌+ℤ◌, ◌-ℤ◌, ◌*ℤ◌, ◌<ℤ◌, ◌≤ℤ◌}
+use Rattle.std.proofs.Common.{List, [], ◌∷◌, length, ◌≡◌, ◌≢◌, ℕ, zero, suc, ◌<◌, ◌≤◌, ◌*◌, ◌⊎◌, inl, inr, refl, sym, ◌∙◌, ap, ap₂, arith, ℤ, pos, negsuc, neg_ℤ, ◌+ℤ◌, ◌-ℤ◌, ◌*ℤ◌, ◌<ℤ◌, ◌≤ℤ◌}
 use Rattle.std.proofs.lemmas.Int.{ints, by_lt_z}
 use Rattle.std.proofs.Math.IntN.{ℤ_discrete}
 use Rattle.lt_model.proofs.Ring.{ring, var, num, neg, ◌⊕◌, ◌⊖◌, ◌⊗◌}
 use Rattle.lt_model.proofs.Inequalities.{mul_nonneg_z}
 use Rattle.lt_model.specs.Padded.{head_z, tail_z}
-use Rattle.lt_model.specs.Vectors.{scale, dot, combine, IsPrimitive}
-use Rattle.lt_model.specs.Forms.{squares, value}
-use Rattle.lt_model.specs.Simplices.{excess}
-use Rattle.lt_model.specs.Walls.{excess_normal}
-use Rattle.lt_model.proofs.Vectors.{dot-plus, dot-scale, dot_comm, scale-scale}
-use Rattle.lt_model.proofs.Excess.{dot-combine, scale-dot}
+use Rattle.lt_model.specs.Vectors.{scale, dot, IsPrimitive}
+use Rattle.lt_model.proofs.Vectors.{scale-scale}
+use Rattle.lt_model.proofs.Excess.{scale-dot}
 
 divide_nat : (g : ℤ) → pos 0 <ℤ g → (n : ℕ) → (q : ℤ) × (r : ℤ) × (pos n ≡ g *ℤ q +ℤ r) × (pos 0 ≤ℤ r) × (r <ℤ g)
 divide_nat g p zero = (pos 0, pos 0, ring (g ∷ []) (num (pos 0)) (var 0 ⊗ num (pos 0) ⊕ num (pos 0)) tt, omega (arith, ints), p)

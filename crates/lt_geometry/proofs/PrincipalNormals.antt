@@ -1,20 +1,19 @@
 -- The regulators of the principal triangulation, and that each is a facet.
-use Rattle.std.proofs.Common.{◌≡◌, ◌≢◌, ℕ, zero, suc, ℤ, pos, negsuc, ◌+ℤ◌, ◌-ℤ◌, ◌*ℤ◌, ◌<ℤ◌, ◌<◌, ◌≤◌, refl, ap, ap₂, arith, sym, ◌∙◌, subst, List, [], ◌∷◌, length, length-append, map, get_or, ◌⊎◌, ◌↔◌, inl, inr}
+use Rattle.std.proofs.Common.{◌≡◌, ◌≢◌, ℕ, zero, suc, ℤ, pos, negsuc, ◌+ℤ◌, ◌-ℤ◌, ◌*ℤ◌, ◌<ℤ◌, ◌<◌, ◌≤◌, refl, ap, ap₂, arith, sym, ◌∙◌, subst, List, [], ◌∷◌, length, map, get_or, ◌⊎◌, ◌↔◌, inl, inr}
 use Rattle.std.proofs.lemmas.Int.{ints}
 use Rattle.std.specs.List.{Contains}
 use Rattle.lt_model.proofs.Integers.{mul_zero_z, zero_mul_z}
 use Rattle.lt_model.proofs.Ring.{ring, var, num, ◌⊖◌, ◌⊗◌}
 use Rattle.lt_model.proofs.Squares.{length-scale, length-plus}
-use Rattle.lt_model.proofs.Vectors.{dot-plus, dot-scale, dot_comm}
-use Rattle.lt_model.proofs.Excess.{dot-combine, same_from_dots, scale-dot}
-use Rattle.lt_model.proofs.Walk.{length-combine, length-map, number_at-map, length-without, number_at-plus, number_at-scale}
+use Rattle.lt_model.proofs.Vectors.{dot-scale, dot_comm}
+use Rattle.lt_model.proofs.Excess.{same_from_dots, scale-dot}
+use Rattle.lt_model.proofs.Walk.{length-map, number_at-map, length-without, number_at-plus, number_at-scale}
 use Rattle.lt_model.proofs.Opposite.{length-unit}
 use Rattle.lt_model.proofs.Expressions.{one_expression, total-plus, total-scale}
-use Rattle.lt_model.proofs.Dependent.{map-map_vectors, length-map_vectors}
 use Rattle.lt_model.proofs.Sets.{Contains-head, Contains-tail}
-use Rattle.lt_model.specs.Vectors.{plus, scale, dot, total, combine, unit, IsPrimitive}
-use Rattle.lt_model.specs.Forms.{squares, value, numbers_of_form}
-use Rattle.lt_model.specs.Simplices.{AllOfDimension, IsSimplex, IsExpression, excess}
+use Rattle.lt_model.specs.Vectors.{plus, scale, dot, total, unit, IsPrimitive}
+use Rattle.lt_model.specs.Forms.{value, numbers_of_form}
+use Rattle.lt_model.specs.Simplices.{IsSimplex, IsExpression, excess}
 use Rattle.lt_model.specs.Facets.{number_at, without, IsNeighbour}
 use Rattle.lt_model.specs.Walls.{excess_normal, IsPair, IsRegulator, IsFacet}
 use Rattle.lt_geometry.specs.Paving.{IsPaving}

@@ -1,6 +1,6 @@
 -- The values of a positive definite form are not negative; a point that is a combination of the vertices of a strictly empty
 -- simplex with no negative number is a vertex.
-use Rattle.std.proofs.Common.{◌≡◌, ℕ, zero, suc, ℤ, pos, negsuc, ◌+ℤ◌, ◌-ℤ◌, ◌*ℤ◌, ◌≤ℤ◌, refl, ap, ap₂, arith, sym, ◌∙◌, subst, List, [], ◌∷◌, length, map}
+use Rattle.std.proofs.Common.{◌≡◌, ℕ, zero, suc, ℤ, pos, negsuc, ◌-ℤ◌, ◌*ℤ◌, ◌≤ℤ◌, refl, ap, ap₂, arith, sym, ◌∙◌, subst, List, [], ◌∷◌, length, map}
 use Rattle.std.proofs.lemmas.Int.{ints}
 use Rattle.std.proofs.lemmas.List.Elements.{All-head, All-tail}
 use Rattle.std.proofs.Math.IntN.{ℤ_discrete}
@@ -8,8 +8,8 @@ use Rattle.std.specs.List.{All, Contains}
 use Rattle.lt_model.proofs.Ring.{ring, var, num, ◌⊖◌, ◌⊗◌}
 use Rattle.lt_model.proofs.Inequalities.{mul_nonneg_z}
 use Rattle.lt_model.proofs.Vectors.{dot-scale}
-use Rattle.lt_model.proofs.Squares.{length-scale, length-plus, squares-scale}
-use Rattle.lt_model.proofs.Excess.{excess-moved, length-translate}
+use Rattle.lt_model.proofs.Squares.{length-scale, squares-scale}
+use Rattle.lt_model.proofs.Excess.{excess-moved}
 use Rattle.lt_model.proofs.Moved.{plus-back, translate_all}
 use Rattle.lt_model.proofs.Opposite.{length-zeros}
 use Rattle.lt_model.specs.Vectors.{plus, scale, dot, zeros}

@@ -1,7 +1,6 @@
 -- The laws on wall forms in the words of the model.
-use Rattle.std.proofs.Common.{List, [], ◌∷◌, length, ◌≡◌, ◌≢◌, ℕ, zero, suc, ◌<◌, ◌≤◌, refl, sym, ◌∙◌, ap, ap₂, subst, arith, ℤ, pos, ◌+ℤ◌, ◌-ℤ◌, ◌*ℤ◌, ◌<ℤ◌, ◌≤ℤ◌}
+use Rattle.std.proofs.Common.{List, [], ◌∷◌, length, ◌≡◌, ◌≢◌, ℕ, zero, suc, ◌<◌, ◌≤◌, refl, sym, ◌∙◌, ap, ap₂, subst, arith, ℤ, pos, ◌+ℤ◌, ◌-ℤ◌, ◌*ℤ◌, ◌<ℤ◌}
 use Rattle.std.proofs.lemmas.Int.{ints}
-use Rattle.std.proofs.Math.IntN.{ℤ_discrete}
 use Rattle.lt_model.proofs.Ring.{ring, var, num, ◌⊕◌, ◌⊖◌, ◌⊗◌}
 use Rattle.lt_walls.proofs.Space.{Opp, rise}
 use Rattle.lt_walls.proofs.Walls.{Tri, wall-definite}
@@ -11,11 +10,11 @@ use Rattle.lt_geometry.proofs.Members.{shift, opposite, shift-back, shift-forth,
 use Rattle.lt_geometry.proofs.Values.{list_dec, value_not_negative}
 use Rattle.lt_geometry.proofs.Ties.{scale_of, coords, neighbours, products}
 use Rattle.lt_model.specs.Vectors.{scale, dot, zeros}
-use Rattle.lt_model.specs.Forms.{squares, value, numbers_of_form, IsPositiveDefinite}
+use Rattle.lt_model.specs.Forms.{value, numbers_of_form, IsPositiveDefinite}
 use Rattle.lt_model.specs.Triangulations.{IsDelaunay}
 use Rattle.lt_model.specs.Walls.{IsRegulator, IsWallForm}
 use Rattle.lt_model.proofs.Vectors.{dot-plus, dot-scale}
-use Rattle.lt_model.proofs.Squares.{parallelogram, squares-scale}
+use Rattle.lt_model.proofs.Squares.{parallelogram}
 
 -- local to global: where every regulator is positive, the triangulation stays Delaunay
 abbrev pub IsLocal : ℕ → List (List (List ℤ)) → Type 0

@@ -4,7 +4,7 @@ use Rattle.std.specs.List.{Contains, All}
 use Rattle.lt_model.specs.Vectors.{scale, dot, IsPrimitive}
 use Rattle.lt_model.specs.Forms.{numbers_of_form, IsPositiveDefinite}
 use Rattle.lt_model.specs.Simplices.{IsSimplex, IsExpression, IsStrictlyEmpty, translate}
-use Rattle.lt_model.specs.Facets.{without, number_at, IsBeyond, IsNeighbour}
+use Rattle.lt_model.specs.Facets.{without, IsBeyond, IsNeighbour}
 use Rattle.lt_model.specs.Triangulations.{IsDelaunay}
 use Rattle.lt_model.specs.Walls.{excess_normal, IsRegulator}
 

@@ -1,12 +1,10 @@
 -- Laws of wall forms and of the cells that they make.
-use Rattle.std.specs.Prelude.{ℕ, suc, ℤ, pos, negsuc, ◌*ℤ◌, ◌<ℤ◌, ◌<◌, ◌≤◌, List, ◌∷◌, length, ◌≡◌}
+use Rattle.std.specs.Prelude.{ℕ, ℤ, pos, ◌≤◌, List, length, ◌≡◌}
 use Rattle.std.specs.List.{Contains}
-use Rattle.lt_model.specs.Vectors.{scale}
 use Rattle.lt_model.specs.Forms.{IsPositiveDefinite}
-use Rattle.lt_model.specs.Simplices.{IsClassOf, IsExpression, excess}
-use Rattle.lt_model.specs.Facets.{without, number_at}
+use Rattle.lt_model.specs.Simplices.{IsExpression, excess}
 use Rattle.lt_model.specs.Triangulations.{IsDelaunay}
-use Rattle.lt_model.specs.Walls.{IsPair, IsFacet, IsWallForm}
+use Rattle.lt_model.specs.Walls.{IsWallForm}
 
 -- in dimension 2 and more the wall forms of a Delaunay triangulation are positive definite
 abbrev pub WallFormsAreDefinite : Type 0

@@ -3,7 +3,7 @@
 
 ghost use Rattle.lt_geometry.specs.Laws.{EveryPavingIsDelaunay, FormsHaveOneTriangulation};
 ghost use Rattle.lt_geometry.specs.FirstLaws.{NormalsAreLinear, ValuesAreLinear, ParallelogramLaw, ExcessesMoveAlong, ExpressionsAreProportional};
-ghost use Rattle.lt_geometry.specs.Regulators.{PointsInsideAreVertices, TriangulationsHaveRegulators, LocalToGlobal};
+ghost use Rattle.lt_geometry.specs.Regulators.{PointsInsideAreVertices, MembersLieOpposite, NeighboursAreUnique, NeighboursAreMutual, OuterVerticesLieAbove, FacetsHaveOneRegulator, RegulatorsAreMutual, RegulatorsArePositive, TriangulationsHaveRegulators, LocalToGlobal};
 ghost use Rattle.lt_geometry.specs.Walls.{WallFormsAreDefinite, OnePointOnEllipsoid};
 ghost use Rattle.lt_geometry.specs.Flips.{FlipsAreDelaunay, FlipsAreAcross, FlipsExist, AcrossIsFlip, OneAcross, ReachedByFlips};
 ghost use Rattle.lt_geometry.specs.Plane.{PlaneIsDelaunay, PlaneRegulators, PlaneWalls, PlaneFlips, PlaneMatrices};
@@ -62,6 +62,41 @@ pub fn principal_facets()
 /// A combination of the vertices of a strictly empty simplex with no negative number is a vertex, if it is an integer point.
 pub fn points_inside_are_vertices()
     ensures { PointsInsideAreVertices }
+{}
+
+/// Two members that share a facet and differ lie on opposite sides of it.
+pub fn members_lie_opposite()
+    ensures { MembersLieOpposite }
+{}
+
+/// A facet of a member has one neighbour.
+pub fn neighbours_are_unique()
+    ensures { NeighboursAreUnique }
+{}
+
+/// A member is the neighbour of its neighbour.
+pub fn neighbours_are_mutual()
+    ensures { NeighboursAreMutual }
+{}
+
+/// The excess of the outer vertex of a neighbour is positive.
+pub fn outer_vertices_lie_above()
+    ensures { OuterVerticesLieAbove }
+{}
+
+/// Each facet of a member has one regulator, and these are all regulators.
+pub fn facets_have_one_regulator()
+    ensures { FacetsHaveOneRegulator }
+{}
+
+/// The regulator of a facet is the same from both sides.
+pub fn regulators_are_mutual()
+    ensures { RegulatorsAreMutual }
+{}
+
+/// Regulators are primitive, and positive at each form of the triangulation.
+pub fn regulators_are_positive()
+    ensures { RegulatorsArePositive }
 {}
 
 /// A Delaunay triangulation has a regulator.
