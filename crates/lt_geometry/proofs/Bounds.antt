@@ -1,4 +1,4 @@
--- Finitely many regulators, and the laws L4 and L5 with no premise but local to global.
+-- Finitely many regulators, and the laws on wall forms with no premise but local to global.
 use Rattle.std.proofs.Common.{List, [], ◌∷◌, length, map, ◌≡◌, ◌≢◌, ℕ, ◌<◌, ◌≤◌, ◌⊎◌, inl, inr, sym, ◌∙◌, ap, ap₂, subst, arith, ℤ, pos, negsuc, neg_ℤ, ◌+ℤ◌, ◌-ℤ◌, ◌*ℤ◌, ◌<ℤ◌, ◌≤ℤ◌}
 use Rattle.std.proofs.lemmas.Int.{ints, by_lt_z}
 use Rattle.std.specs.List.{Contains}
@@ -151,7 +151,7 @@ pub setting : (d : ℕ) (two : 2 ≤ d) (t : List (List (List ℤ))) (q w : Form
     Tri (space d two) (Placed d t) (IsRegulator d t) (λ m b. dot m b.numbers) n q w
 setting d two t q w n k local wall = tri d two t q w n k local wall (regulators d two t q w n k wall)
 
--- L4: in dimension 2 and more every wall form of a Delaunay triangulation is positive definite
+-- in dimension 2 and more every wall form of a Delaunay triangulation is positive definite
 pub every_wall_form_is_definite : (d : ℕ) (t : List (List (List ℤ))) (a w n : List ℤ) → 2 ≤ d → IsDelaunay d a t → IsLocal d t → IsWallForm d t n w → IsPositiveDefinite d w
 every_wall_form_is_definite d t a w n two k local wall =
     let q : Form d = record { numbers = a; is = k.positive.numbers } in
@@ -165,7 +165,7 @@ from_expression d two C x c b h e = record { positive = e.positive; is = from_nu
 pub from_excess : (d : ℕ) (q : Form d) (C : List (Vec d)) (x : Vec d) (c : ℤ) (b : List ℤ) → Distinct (vec-dec d) C → length b ≡ length (lists d C) → excess (at d q) x C c (fn d C b) ≡ c *ℤ value q.numbers (list d x) -ℤ dot b (map (value q.numbers) (lists d C))
 from_excess d q C x c b h l = excess-is (at d q) x C c (fn d C b) ∙ ap (λ z. c *ℤ at d q x -ℤ z) (fn-sum d C b h l (value q.numbers))
 
--- L5: of the points outside a class of the triangulation, at most one lies on its ellipsoid of a wall form
+-- of the points outside a class of the triangulation, at most one lies on its ellipsoid of a wall form
 pub one_point_on_ellipsoid : (d : ℕ) (t : List (List (List ℤ))) (a w n : List ℤ) → 2 ≤ d → IsDelaunay d a t → IsLocal d t → IsWallForm d t n w → (s : List (List ℤ)) → Contains t s →
     (x x' : List ℤ) → length x ≡ d → length x' ≡ d → (Contains s x → ⊥) → (Contains s x' → ⊥) → (c c' : ℤ) (b b' : List ℤ) → IsExpression s x c b → IsExpression s x' c' b' →
     c *ℤ value w x -ℤ dot b (map (value w) s) ≡ pos 0 → c' *ℤ value w x' -ℤ dot b' (map (value w) s) ≡ pos 0 → x ≡ x'
@@ -212,7 +212,7 @@ one_point_on_ellipsoid d t a w n two k local wall s mem x x' l l' out out' c c' 
         (from_excess d f C (v.0) c b dist ex.one_each ∙ ap₂ (λ y r. c *ℤ value w y -ℤ dot b (map (value w) r)) (v.1) (cp.1) ∙ z)
         (from_excess d f C (v'.0) c' b' dist ex'.one_each ∙ ap₂ (λ y r. c' *ℤ value w y -ℤ dot b' (map (value w) r)) (v'.1) (cp.1) ∙ z')
 
--- L6 on placed simplices: for each large m the flipped set is strictly empty for m W - A, which is positive definite
+-- on placed simplices: for each large m the flipped set is strictly empty for m W - A, which is positive definite
 pub flip_at : (d : ℕ) (two : 2 ≤ d) (t : List (List (List ℤ))) (q w : Form d) (n : List ℤ) → (set : Tri (space d two) (Placed d t) (IsRegulator d t) (λ m b. dot m b.numbers) n q w) → Scale set → Finite set (moves d two t q w n set) → (S : List (Vec d)) → Flipped set S → (u : Vec d) → In (vec-dec d) u S →
     (m : ℤ) × ((mu : ℤ) → m ≤ℤ mu → ((R : List (Vec d)) → Flipped set R → Strict (space d two) (at d (mixed_form d mu w (negsuc 0) q)) R) × Definite (space d two) (mixed_form d mu w (negsuc 0) q))
 flip_at d two t q w n set sc fin S h u iu = flip-theorem set sc (moves d two t q w n set) fin (spread d two) S h u iu

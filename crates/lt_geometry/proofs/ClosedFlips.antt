@@ -72,7 +72,7 @@ contains_alike d C R k x h = at_point (some C h)
     at_point : (v : Vec d) × (list d v ≡ x) → Contains (lists d R) x
     at_point v = subst (Contains (lists d R)) (v.1) (from_in d R (v.0) (in-alike (to_in d C (v.0) (subst (Contains (lists d C)) (sym (v.1)) h)) k))
 
--- F3 in the model's sense
+-- it is closed in the model's sense
 pub flipped_is_closed : (d : ℕ) (two : 2 ≤ d) (t : List (List (List ℤ))) (q w : Form d) (n : List ℤ) (set : Tri (space d two) (Placed d t) (IsRegulator d t) (λ m b. dot m b.numbers) n q w) (t' : List (List (List ℤ))) → IsFlipped d two t q w n set t' → IsClosed d t'
 flipped_is_closed d two t q w n set t' fl s i mem l = subst (λ r. (next : List (List ℤ)) × (p : List ℤ) × (j : ℕ) × IsNeighbour d t' r i next p j) e (from_next (flipped-closed set r a.rest fr))
   where
@@ -169,7 +169,7 @@ flipped_is_closed d two t q w n set t' fl s i mem l = subst (λ r. (next : List 
           negative = subst (λ v. v <ℤ pos 0) (sym (a.number G ∙ upd-at (vec-dec d) r (neg_ℤ o.m) o.bs)) (omega (arith, ints, o.m_pos));
         })
 
--- L6, T4.1 forward: a list of classes whose placed simplices are the flipped set is the Delaunay triangulation of m w - a for every large m
+-- a list of classes whose placed simplices are the flipped set is the Delaunay triangulation of m w - a for every large m
 pub flipped_is_delaunay : (d : ℕ) (two : 2 ≤ d) (t : List (List (List ℤ))) (q w : Form d) (n : List ℤ) → (k : IsDelaunay d q.numbers t) (local : IsLocal d t) (wall : IsWallForm d t n w.numbers) (t' : List (List (List ℤ))) →
     IsFlipped d two t q w n (setting d two t q w n k local wall) t' → 0 < length t' → IsStrictlySortedBy simplex_cmp t' →
     (m : ℤ) × ((mu : ℤ) → m ≤ℤ mu → IsDelaunay d (minus (scale mu w.numbers) q.numbers) t')

@@ -185,15 +185,15 @@ natural (negsuc m) h = absurd (omega (arith, ints, h))
 
 -- ---- a cell is a pair of the model
 
-pub record CellPair (d : ℕ) (t : List (List (List ℤ))) (n : List ℤ) (V : List (Vec d)) (s : Vec d → ℤ) : Type 0 where
+-- with the outer vertex w
+pub record CellPair (d : ℕ) (t : List (List (List ℤ))) (n : List ℤ) (V : List (Vec d)) (s : Vec d → ℤ) (w : Vec d) : Type 0 where
   pub base : List (Vec d)
   pub by : Vec d
-  pub w : Vec d
   pub is : IsClass d (lists d base)
   pub alike : Alike V (w ∷ moved (shift d by) base)
   pub pair : IsPair d t n (lists d base) (list d (shift d (opposite d by) w)) (s w) (row d (λ u. neg_ℤ (s (shift d by u))) base)
 
-pub pair_of : (d : ℕ) (two : 2 ≤ d) (t : List (List (List ℤ))) (q w : Form d) (n : List ℤ) (set : Walls d two t q w n) (k : IsDelaunay d q.numbers t) → IsRegulator d t n → (V : List (Vec d)) (s : Vec d → ℤ) → Cell set V s → CellPair d t n V s
+pub pair_of : (d : ℕ) (two : 2 ≤ d) (t : List (List (List ℤ))) (q w : Form d) (n : List ℤ) (set : Walls d two t q w n) (k : IsDelaunay d q.numbers t) → IsRegulator d t n → (V : List (Vec d)) (s : Vec d → ℤ) → (cell : Cell set V s) → CellPair d t n V s cell.w
 pair_of d two t q w0 n set k reg V s cell = found (k.closed (lists d C) sp0.i h.member (omega (arith, sp0.within, cls.simplex.count)))
   where
     p : Vec d
@@ -290,8 +290,8 @@ pair_of d two t q w0 n set k reg V s cell = found (k.closed (lists d C) sp0.i h.
     multiple : normal ≡ scale (pos (f.0)) n
     multiple = same_from_forms normal (scale (pos (f.0)) n) (length_is ∙ sym (length-scale (pos (f.0)) n ∙ length_regulator d two q t k n reg)) (λ u lu. normal_is (record { numbers = u; is = lu ∙ length_is }) ∙ ap (λ z. z *ℤ dot n u) (f.2) ∙ sym (scale-dot (pos (f.0)) n u))
 
-    found : (next : List (List ℤ)) × (m : List ℤ) × (j : ℕ) × IsNeighbour d t (lists d C) sp0.i next m j → CellPair d t n V s
-    found r = record { base = C; by = y; w = w; is = cls; alike = alike-trans al_w (alike-cons w h.alike); pair = pair }
+    found : (next : List (List ℤ)) × (m : List ℤ) × (j : ℕ) × IsNeighbour d t (lists d C) sp0.i next m j → CellPair d t n V s cell.w
+    found r = record { base = C; by = y; is = cls; alike = alike-trans al_w (alike-cons w h.alike); pair = pair }
       where
         u : Outer d two t sp0.rest (get_or (translate (r.1) (r.0)) (r.2) [])
         u = outer d two q t k (lists d C) sp0.i sp0.rest sp0.lists_rest (r.0) (r.1) (r.2) (r.3)
@@ -325,7 +325,7 @@ pub to_exchanged : (d : ℕ) (two : 2 ≤ d) (t : List (List (List ℤ))) (q w :
 to_exchanged d two t q w n set k reg sign S sd C y cls al = record {
   base = lists d C0;
   vertex = list d v;
-  c = s cp.w;
+  c = s sd.cell.w;
   b = row d (λ u. neg_ℤ (s (shift d z u))) C0;
   pair = cp.pair;
   place = st.0;
@@ -340,7 +340,7 @@ to_exchanged d two t q w n set k reg sign S sd C y cls al = record {
     i : Vec d
     i = sd.i
 
-    cp : CellPair d t n sd.V s
+    cp : CellPair d t n sd.V s sd.cell.w
     cp = pair_of d two t q w n set k reg sd.V s sd.cell
 
     C0 : List (Vec d)
@@ -350,7 +350,7 @@ to_exchanged d two t q w n set k reg sign S sd C y cls al = record {
     z = cp.by
 
     v : Vec d
-    v = shift d (opposite d z) cp.w
+    v = shift d (opposite d z) sd.cell.w
 
     i' : Vec d
     i' = shift d (opposite d z) i
@@ -362,7 +362,7 @@ to_exchanged d two t q w n set k reg sign S sd C y cls al = record {
     G u = s (shift d z u)
 
     here : Alike (moved (shift d (opposite d z)) sd.V) (v ∷ C0)
-    here = subst (λ l. Alike (moved (shift d (opposite d z)) sd.V) (v ∷ l)) (moved_back d z C0) (subst (λ l. Alike (moved (shift d (opposite d z)) sd.V) l) (moved-cons (shift d (opposite d z)) cp.w (moved (shift d z) C0)) (alike-moved (shift d (opposite d z)) cp.alike))
+    here = subst (λ l. Alike (moved (shift d (opposite d z)) sd.V) (v ∷ l)) (moved_back d z C0) (subst (λ l. Alike (moved (shift d (opposite d z)) sd.V) l) (moved-cons (shift d (opposite d z)) sd.cell.w (moved (shift d z) C0)) (alike-moved (shift d (opposite d z)) cp.alike))
 
     there : Alike (moved (shift d (opposite d z)) sd.V) (i' ∷ moved (shift d m) C)
     there = subst (λ l. Alike (moved (shift d (opposite d z)) sd.V) (i' ∷ l)) (twice d y (opposite d z) C) (subst (λ l. Alike (moved (shift d (opposite d z)) sd.V) l) (moved-cons (shift d (opposite d z)) i (moved (shift d y) C)) (alike-moved (shift d (opposite d z)) (alike-trans sd.rest (alike-cons i al))))
@@ -376,5 +376,5 @@ to_exchanged d two t q w n set k reg sign S sd C y cls al = record {
     rests : Alike seat.rest (moved (shift d m) C)
     rests = alike-cancel i' (alike-trans (alike-sym seat.alike) (alike-trans (alike-sym here) there))
 
-    numbers : (s cp.w) ∷ scale (negsuc 0) (row d (λ u. neg_ℤ (s (shift d z u))) C0) ≡ row d G (v ∷ C0)
-    numbers = ap₂ (λ a l. a ∷ l) (ap s (sym (shift-forth d z cp.w))) (negated d G C0)
+    numbers : (s sd.cell.w) ∷ scale (negsuc 0) (row d (λ u. neg_ℤ (s (shift d z u))) C0) ≡ row d G (v ∷ C0)
+    numbers = ap₂ (λ a l. a ∷ l) (ap s (sym (shift-forth d z sd.cell.w))) (negated d G C0)

@@ -75,7 +75,7 @@ some_new d two t q w n set V s k = go (negative (vec-dec d) s V)
     go (inl r) = (r.1, record { V = V; s = s; u = r.0; cell = k; below = r.3; rest = r.2 })
     go (inr h) = absurd (omega (arith, ints, sum, k.p_pos, nonneg_sum d s (k.w ∷ k.F) (λ v i. h v (in-alike (in-tail (vec-dec d) v k.p (k.w ∷ k.F) i) (alike-sym k.all)))))
 
--- ---- F0, F1: the placed simplices of a flip are the flipped set
+-- ---- the placed simplices of a flip are the flipped set
 
 flip_classes : (d : ℕ) (q : Form d) (t : List (List (List ℤ))) (n : List ℤ) (t' : List (List (List ℤ))) → IsDelaunay d q.numbers t → IsFlipOf d t n t' → (s : List (List ℤ)) → Contains t' s → IsClass d s
 flip_classes d q t n t' k fl s m = elim ((fl.members s).0 m) [ inl r ↦ ((k.members s).0 (r.0)).0 | inr ex ↦ ex.class_of.«class» ]
@@ -140,7 +140,7 @@ size : (m : ℤ) → (b : ℕ) × ((k : ℕ) → b ≤ k → m ≤ℤ pos k)
 size (pos b) = (b, λ k h. omega (arith, ints, h))
 size (negsuc b) = (0, λ k h. omega (arith, ints))
 
--- T4.1, the flip theorem on the model's flip
+-- the flip theorem on the model's flip
 pub flips_are_delaunay : (d : ℕ) (a w n : List ℤ) (t t' : List (List (List ℤ))) → 2 ≤ d → IsDelaunay d a t → IsWallForm d t n w → IsFlipOf d t n t' → (bound : ℕ) × ((m : ℕ) → bound ≤ m → IsDelaunay d (minus (scale (pos m) w) a) t')
 flips_are_delaunay d a w n t t' two k wall fl = (b.0, λ m h. r.1 (pos m) (b.1 m h))
   where

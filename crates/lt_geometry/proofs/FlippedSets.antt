@@ -74,7 +74,7 @@ rep_out d [] cls C h = absurd h
 rep_out d (s ∷ t) cls C (inl e) = subst (Contains (s ∷ t)) (sym ((of_lists d s ((cls s (Contains-head s t)).simplex.points)).1) ∙ ap (lists d) (sym e)) (Contains-head s t)
 rep_out d (s ∷ t) cls C (inr r) = Contains-tail s t (lists d C) (rep_out d t (λ r h. cls r (Contains-tail s t r h)) C r)
 
--- T4.1, as far as it needs no sorting: where the placed simplices of t' are the flipped set and t' is closed under facets, t' is the Delaunay triangulation of m w - a for every large m
+-- where the placed simplices of t' are the flipped set and t' is closed under facets, t' is the Delaunay triangulation of m w - a for every large m
 pub flip_is_delaunay : (d : ℕ) (two : 2 ≤ d) (t : List (List (List ℤ))) (q w : Form d) (n : List ℤ) → (k : IsDelaunay d q.numbers t) (local : IsLocal d t) (wall : IsWallForm d t n w.numbers) (t' : List (List (List ℤ))) →
     IsFlipped d two t q w n (setting d two t q w n k local wall) t' → 0 < length t' → IsStrictlySortedBy simplex_cmp t' → IsClosed d t' →
     (m : ℤ) × ((mu : ℤ) → m ≤ℤ mu → IsDelaunay d (minus (scale mu w.numbers) q.numbers) t')

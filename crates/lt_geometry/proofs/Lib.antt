@@ -39,6 +39,7 @@ pub mod LocalToGlobal
 pub mod Sorting
 pub mod HasClasses
 pub mod Exchanged
+pub mod ExchangeLaws
 pub mod FlipOf
 pub mod Listed
 pub mod Reached

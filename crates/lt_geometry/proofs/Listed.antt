@@ -252,7 +252,7 @@ at_facet d two t q w n set k wall C mem i li = go (ℤ_discrete (qs (at d w) s (
     go (yes e) = below (IsExchanged d t n (negsuc 0)) (Made d t n C i) (suc (suc d)) (λ l ll. at_place d two t q w n set k wall C mem i f (cell-of set C (base_placed d two t C mem) f.x out s (subst (λ z. pos 0 <ℤ z) (sym (fn-head d f.x C f.c (scale (negsuc 0) f.b))) f.expression.positive) fl e) l ll)
     go (no ne) = nothing (IsExchanged d t n (negsuc 0)) (λ s. (l : ℕ) × (l < suc (suc d)) × Made d t n C i l s) (λ r y. ne (dep-wall set (made_cell d two t q w n set k wall.zero_there C i (y.0) r f (y.2)) s fl))
 
--- F1: the classes that the flip makes
+-- the classes that the flip makes
 exchanged : (d : ℕ) (two : 2 ≤ d) (t : List (List (List ℤ))) (q w : Form d) (n : List ℤ) (set : Walls d two t q w n) → IsDelaunay d q.numbers t → IsWallForm d t n w.numbers → Listing (IsExchanged d t n (negsuc 0)) (IsExchanged d t n (negsuc 0))
 exchanged d two t q w n set k wall = less (gather (IsExchanged d t n (negsuc 0)) (λ s0 s. (ex : IsExchanged d t n (negsuc 0) s) × (ex.base ≡ s0)) t from_class) (λ s ex. (ex.base, ex.pair.member, (ex, refl)))
   where

@@ -99,10 +99,10 @@ backward d two t a q k h = delaunay_from_paving d q.numbers t (some t k.occupied
     some [] l f = absurd (omega (arith, l))
     some (s ∷ r) l f = let i = f s (Contains-head s r) in let c = class_points d a t k s i in at_member s i (c.0) (c.1)
 
--- L3 backward
+-- local to global, from dimension 2 on
 pub local_from : (d : ℕ) (t : List (List (List ℤ))) (a : List ℤ) → 2 ≤ d → IsDelaunay d a t → IsLocal d t
 local_from d t a two k q l h = backward d two t (record { numbers = a; is = k.positive.numbers }) (record { numbers = q; is = l }) k h
 
--- L3 forward
+-- and back
 pub rises_from : (d : ℕ) (t : List (List (List ℤ))) (a : List ℤ) → 2 ≤ d → IsDelaunay d a t → (n : List ℤ) → IsRegulator d t n → pos 0 <ℤ dot n a
 rises_from d t a two k n r = rises d two (record { numbers = a; is = k.positive.numbers }) t k n r

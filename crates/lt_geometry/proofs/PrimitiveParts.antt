@@ -86,7 +86,7 @@ pub record Primitive (h : List ℤ) : Type 0 where
   pub is : h ≡ scale (pos k) n
   pub primitive : IsPrimitive n
 
--- B5: h, whose value at a is positive and below the fuel, as a multiple of a primitive list
+-- h, whose value at a is positive and below the fuel, as a multiple of a primitive list
 primitive_by : (fuel : ℕ) (h a : List ℤ) → pos 0 <ℤ dot h a → dot h a <ℤ pos fuel → Primitive h
 primitive_by zero h a p l = absurd (omega (arith, ints, p, l))
 primitive_by (suc fuel) h a p l = go (factor h (suc fuel)) (λ m. primitive_by fuel m a)

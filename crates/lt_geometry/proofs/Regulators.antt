@@ -26,7 +26,7 @@ use Rattle.lt_geometry.proofs.Unique.{weighted, one_neighbour}
 use Rattle.lt_geometry.proofs.Sides.{paving_of, unique_neighbour, mutual_neighbour, turned, aside}
 
 -- the outer vertex has d coordinates
-length_outer : (d : ℕ) (a : List ℤ) (t : List (List (List ℤ))) → IsDelaunay d a t → (s : List (List ℤ)) (i : ℕ) (next : List (List ℤ)) (p : List ℤ) (j : ℕ) → IsNeighbour d t s i next p j → length (outer_vertex next p j) ≡ d
+pub length_outer : (d : ℕ) (a : List ℤ) (t : List (List (List ℤ))) → IsDelaunay d a t → (s : List (List ℤ)) (i : ℕ) (next : List (List ℤ)) (p : List ℤ) (j : ℕ) → IsNeighbour d t s i next p j → length (outer_vertex next p j) ≡ d
 length_outer d a t k s i next p j nb =
     let c : IsSimplex d next = ((k.members next).0 nb.member).0.simplex in
     get_dimension d (translate p next) j (translate_all d p next nb.dimension c.points) (omega (arith, nb.place, length-translate p next, c.count))

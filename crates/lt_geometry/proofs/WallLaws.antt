@@ -51,7 +51,7 @@ tri d two t q w n k local wall reg = record {
   wall_pos = wall.others;
 }
 
--- L4: in dimension 2 and more a wall form is positive definite
+-- in dimension 2 and more a wall form is positive definite
 pub wall-is-definite : (d : ℕ) (two : 2 ≤ d) (t : List (List (List ℤ))) (q w : Form d) (n : List ℤ) → IsDelaunay d q.numbers t → IsLocal d t → IsWallForm d t n w.numbers → Regulators d two t q w n → IsPositiveDefinite d w.numbers
 wall-is-definite d two t q w n k local wall reg = record {
   numbers = w.is;

@@ -6,3 +6,4 @@ pub mod Plane
 pub mod Regulators
 pub mod Walls
 pub mod Flips
+pub mod Exchanges

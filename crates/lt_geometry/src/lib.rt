@@ -5,6 +5,7 @@ ghost use Rattle.lt_geometry.specs.Laws.{EveryPavingIsDelaunay, FormsHaveOneTria
 ghost use Rattle.lt_geometry.specs.FirstLaws.{NormalsAreLinear, ValuesAreLinear, ParallelogramLaw, ExcessesMoveAlong, ExpressionsAreProportional};
 ghost use Rattle.lt_geometry.specs.Regulators.{PointsInsideAreVertices, MembersLieOpposite, NeighboursAreUnique, NeighboursAreMutual, OuterVerticesLieAbove, FacetsHaveOneRegulator, RegulatorsAreMutual, RegulatorsArePositive, TriangulationsHaveRegulators, LocalToGlobal};
 ghost use Rattle.lt_geometry.specs.Walls.{WallFormsAreDefinite, OnePointOnEllipsoid};
+ghost use Rattle.lt_geometry.specs.Exchanges.{ExchangedAreMembers, OneOuterVertex, MadeFromExchanged};
 ghost use Rattle.lt_geometry.specs.Flips.{FlipsAreDelaunay, FlipsAreAcross, FlipsExist, AcrossIsFlip, OneAcross, ReachedByFlips};
 ghost use Rattle.lt_geometry.specs.Plane.{PlaneIsDelaunay, PlaneRegulators, PlaneWalls, PlaneFlips, PlaneMatrices};
 ghost use Rattle.lt_geometry.specs.Principal.{PrincipalIsDelaunay, PrincipalRegulators, PrincipalFacets};
@@ -118,6 +119,21 @@ pub fn wall_forms_are_definite()
 /// Of the points outside a member at most one has the excess 0 at a wall form.
 pub fn one_point_on_ellipsoid()
     ensures { OnePointOnEllipsoid }
+{}
+
+/// The simplices that a flip takes out are the members with the regulator at a facet.
+pub fn exchanged_are_members()
+    ensures { ExchangedAreMembers }
+{}
+
+/// Across all facets of a member with the regulator lies one outer vertex.
+pub fn one_outer_vertex()
+    ensures { OneOuterVertex }
+{}
+
+/// The simplices that a flip puts in are made from those that it takes out.
+pub fn made_from_exchanged()
+    ensures { MadeFromExchanged }
 {}
 
 /// The flip at a facet is the Delaunay triangulation of `m W - A` for every large `m`.

@@ -1,5 +1,5 @@
 -- Cells: d + 2 points with their dependency. Members that the flip keeps, and simplices that it makes.
-use Rattle.std.proofs.Common.{List, [], ◌∷◌, ◌≡◌, ◌≢◌, ℕ, ◌⊎◌, inl, inr, sym, ◌∙◌, ap, ap₂, subst, arith, ℤ, pos, neg_ℤ, ◌+ℤ◌, ◌-ℤ◌, ◌*ℤ◌, ◌<ℤ◌, ◌≤ℤ◌}
+use Rattle.std.proofs.Common.{List, [], ◌∷◌, ◌≡◌, ◌≢◌, ℕ, ◌⊎◌, inl, inr, refl, sym, ◌∙◌, ap, ap₂, subst, arith, ℤ, pos, neg_ℤ, ◌+ℤ◌, ◌-ℤ◌, ◌*ℤ◌, ◌<ℤ◌, ◌≤ℤ◌}
 use Rattle.std.proofs.lemmas.Int.{ints, by_lt_z}
 use Rattle.lt_model.proofs.Ring.{ring, ring_by, ring_by_two, var, num, neg, ◌⊕◌, ◌⊖◌, ◌⊗◌}
 use Rattle.lt_walls.proofs.Sums.{qs}
@@ -39,9 +39,9 @@ neg-expr sp x S s p fl = record { positive = omega (arith, ints, p); is = λ j. 
 pub neg-excess : {P : Type 0} → (q : P → ℤ) (x : P) (S : List P) (s : P → ℤ) → excess q x S (neg_ℤ (s x)) s ≡ neg_ℤ (s x *ℤ q x +ℤ qs q s S)
 neg-excess q x S s = excess-is q x S (neg_ℤ (s x)) s ∙ ring ((s x) ∷ (q x) ∷ (qs q s S) ∷ []) (neg (var 0) ⊗ var 1 ⊖ var 2) (neg (var 0 ⊗ var 1 ⊕ var 2)) tt
 
--- X7: a point on the ellipsoid of W of a member makes a cell with it, by any dependency that is positive at the point
-pub cell-of : {P Form R : Type 0} → {sp : Space P Form} → {Mem : List P → Type 0} → {Reg : R → Type 0} → {func : R → Form → ℤ} → {N : R} → {A W : Form} → (t : Tri sp Mem Reg func N A W) → (S : List P) → Mem S → (x : P) → (In sp.dec x S → ⊥) → (s : P → ℤ) → pos 0 <ℤ s x → ((j : ℕ) → qs (sp.hom j) s (x ∷ S) ≡ pos 0) → qs (sp.val W) s (x ∷ S) ≡ pos 0 → Cell t (x ∷ S) s
-cell-of {P} {Form} {R} {sp} {Mem} {Reg} {func} {N} {A} {W} t S mem x out s pos_x fl zero = go (negative sp.dec (λ v. neg_ℤ (s v)) S)
+-- a point on the ellipsoid of W of a member makes a cell with it, by any dependency that is positive at the point; the point is the outer vertex of a pair
+pub outer-cell : {P Form R : Type 0} → {sp : Space P Form} → {Mem : List P → Type 0} → {Reg : R → Type 0} → {func : R → Form → ℤ} → {N : R} → {A W : Form} → (t : Tri sp Mem Reg func N A W) → (S : List P) → Mem S → (x : P) → (In sp.dec x S → ⊥) → (s : P → ℤ) → pos 0 <ℤ s x → ((j : ℕ) → qs (sp.hom j) s (x ∷ S) ≡ pos 0) → qs (sp.val W) s (x ∷ S) ≡ pos 0 → (k : Cell t (x ∷ S) s) × (k.w ≡ x)
+outer-cell {P} {Form} {R} {sp} {Mem} {Reg} {func} {N} {A} {W} t S mem x out s pos_x fl zero = go (negative sp.dec (λ v. neg_ℤ (s v)) S)
   where
     c : ℤ
     c = s x
@@ -58,7 +58,7 @@ cell-of {P} {Form} {R} {sp} {Mem} {Reg} {func} {N} {A} {W} t S mem x out s pos_x
     z : excess (sp.val W) x S c b ≡ pos 0
     z = dep-excess (sp.val W) x S s ∙ sym (qs-cons (sp.val W) s x S) ∙ zero
 
-    go : ((k : P) × (F : List P) × Alike S (k ∷ F) × (b k <ℤ pos 0)) ⊎ ((v : P) → In sp.dec v S → pos 0 ≤ℤ b v) → Cell t (x ∷ S) s
+    go : ((k : P) × (F : List P) × Alike S (k ∷ F) × (b k <ℤ pos 0)) ⊎ ((v : P) → In sp.dec v S → pos 0 ≤ℤ b v) → (k : Cell t (x ∷ S) s) × (k.w ≡ x)
     go (inr h) = absurd (out (inner sp A t.definite x S c b e h ((t.strict S mem).weak.outside x c b e)))
     go (inl r) = finish (t.regular k x F mem_k mem_x o)
       where
@@ -99,28 +99,34 @@ cell-of {P} {Form} {R} {sp} {Mem} {Reg} {func} {N} {A} {W} t S mem x out s pos_x
         rise_is : (f : P → ℤ) → rise f o ≡ qs f s (x ∷ S)
         rise_is f = rise-is f o ∙ ap (λ y. (s x *ℤ f x +ℤ s k *ℤ f k) -ℤ y) (qs-minus f s F) ∙ ring ((s x *ℤ f x) ∷ (s k *ℤ f k) ∷ (qs f s F) ∷ []) (var 0 ⊕ var 1 ⊖ neg (var 2)) (var 1 ⊕ (var 0 ⊕ var 2)) tt ∙ sym (sums f)
 
-        finish : (M : R) × Reg M × (n : ℤ) × (pos 0 <ℤ n) × ((Q : Form) → rise (sp.val Q) o ≡ n *ℤ func M Q) → Cell t (x ∷ S) s
+        finish : (M : R) × Reg M × (n : ℤ) × (pos 0 <ℤ n) × ((Q : Form) → rise (sp.val Q) o ≡ n *ℤ func M Q) → (k : Cell t (x ∷ S) s) × (k.w ≡ x)
         finish g = last (t.decide (g.0))
           where
             wall_at : g.2 *ℤ func (g.0) W ≡ pos 0
             wall_at = sym (g.4 W) ∙ rise_is (sp.val W) ∙ zero
 
-            last : Dec (g.0 ≡ N) → Cell t (x ∷ S) s
+            last : Dec (g.0 ≡ N) → (k : Cell t (x ∷ S) s) × (k.w ≡ x)
             last (no n) = absurd (omega (arith, ints, wall_at, mul_pos_z (g.2) (func (g.0) W) (g.3) (t.wall_pos (g.0) (g.1) n)))
-            last (yes q) = record {
-              p = k;
-              w = x;
-              F = F;
-              all = all;
-              mem_p = mem_k;
-              mem_w = mem_x;
-              p_pos = k_pos;
-              w_pos = pos_x;
-              flat = fl;
-              factor = g.2;
-              factor_pos = g.3;
-              multiple = λ Q. sym (rise_is (sp.val Q)) ∙ g.4 Q ∙ ap (λ y. g.2 *ℤ func y Q) q;
-            }
+            last (yes q) = (
+              record {
+                p = k;
+                w = x;
+                F = F;
+                all = all;
+                mem_p = mem_k;
+                mem_w = mem_x;
+                p_pos = k_pos;
+                w_pos = pos_x;
+                flat = fl;
+                factor = g.2;
+                factor_pos = g.3;
+                multiple = λ Q. sym (rise_is (sp.val Q)) ∙ g.4 Q ∙ ap (λ y. g.2 *ℤ func y Q) q;
+              },
+              refl,
+            )
+
+pub cell-of : {P Form R : Type 0} → {sp : Space P Form} → {Mem : List P → Type 0} → {Reg : R → Type 0} → {func : R → Form → ℤ} → {N : R} → {A W : Form} → (t : Tri sp Mem Reg func N A W) → (S : List P) → Mem S → (x : P) → (In sp.dec x S → ⊥) → (s : P → ℤ) → pos 0 <ℤ s x → ((j : ℕ) → qs (sp.hom j) s (x ∷ S) ≡ pos 0) → qs (sp.val W) s (x ∷ S) ≡ pos 0 → Cell t (x ∷ S) s
+cell-of t S mem x out s pos_x fl zero = (outer-cell t S mem x out s pos_x fl zero).0
 
 -- ---- what a cell knows
 
@@ -136,7 +142,7 @@ cell-distinct {P} {Form} {R} {sp} {Mem} {Reg} {func} {N} {A} {W} t {V} {s} k = d
     out : In sp.dec k.p (k.w ∷ k.F) → ⊥
     out i = elim (in-cases sp.dec k.p k.w k.F i) [ inl e ↦ other e | inr h ↦ distinct-out (t.simp (k.p ∷ k.F) k.mem_p).distinct h ]
 
--- C1: all dependencies are multiples of s
+-- all dependencies are multiples of s
 pub parallel : {P Form R : Type 0} → {sp : Space P Form} → {Mem : List P → Type 0} → {Reg : R → Type 0} → {func : R → Form → ℤ} → {N : R} → {A W : Form} → (t : Tri sp Mem Reg func N A W) → {V : List P} → {s : P → ℤ} → Cell t V s → (r : P → ℤ) → ((j : ℕ) → qs (sp.hom j) r V ≡ pos 0) → (u v : P) → In sp.dec u V → In sp.dec v V → s u *ℤ r v ≡ r u *ℤ s v
 parallel {P} {Form} {R} {sp} {Mem} {Reg} {func} {N} {A} {W} t {V} {s} k r fl u v iu iv = cancel_nonzero_z (s k.p) (s u *ℤ r v) (r u *ℤ s v) (λ q. omega (arith, ints, k.p_pos, q))
     (ring_by_two ((s k.p) ∷ (r k.p) ∷ (s u) ∷ (s v) ∷ (r u) ∷ (r v) ∷ []) (var 0 ⊗ (var 2 ⊗ var 5)) (var 0 ⊗ (var 4 ⊗ var 3)) (var 2) (var 0 ⊗ var 5) (var 1 ⊗ var 3) (neg (var 3)) (var 0 ⊗ var 4) (var 1 ⊗ var 2) tt (base v iv) (base u iu))
@@ -200,7 +206,7 @@ cell-simp {P} {Form} {R} {sp} {Mem} {Reg} {func} {N} {A} {W} t {V} {s} k i S al 
 pub cell-at : {P Form R : Type 0} → {sp : Space P Form} → {Mem : List P → Type 0} → {Reg : R → Type 0} → {func : R → Form → ℤ} → {N : R} → {A W : Form} → (t : Tri sp Mem Reg func N A W) → {V : List P} → {s : P → ℤ} → Cell t V s → (i : P) (S : List P) → Alike V (i ∷ S) → (j : ℕ) → s i *ℤ sp.hom j i +ℤ qs (sp.hom j) s S ≡ pos 0
 cell-at {P} {Form} {R} {sp} {Mem} {Reg} {func} {N} {A} {W} t {V} {s} k i S al j = sym (alike-qs (sp.hom j) s i al) ∙ k.flat j
 
--- C2
+-- a simplex of a cell that leaves out a point with a positive number is a member
 pub cell-member : {P Form R : Type 0} → {sp : Space P Form} → {Mem : List P → Type 0} → {Reg : R → Type 0} → {func : R → Form → ℤ} → {N : R} → {A W : Form} → (t : Tri sp Mem Reg func N A W) → {V : List P} → {s : P → ℤ} → Cell t V s → (i : P) (S : List P) → Alike V (i ∷ S) → pos 0 <ℤ s i → Mem S
 cell-member {P} {Form} {R} {sp} {Mem} {Reg} {func} {N} {A} {W} t {V} {s} k i S al pi = go (in-cases sp.dec i k.p (k.w ∷ k.F) (in-alike (in-head sp.dec i S) (alike-trans (alike-sym al) k.all)))
   where
@@ -229,7 +235,7 @@ cell-member {P} {Form} {R} {sp} {Mem} {Reg} {func} {N} {A} {W} t {V} {s} k i S a
         z : excess (sp.val W) k.p (i ∷ G) (s k.p) (λ v. neg_ℤ (s v)) ≡ pos 0
         z = dep-excess (sp.val W) k.p (i ∷ G) s ∙ sym (alike-qs (sp.val W) s k.p al') ∙ cell-wall t k
 
--- C3: excesses at W over two simplices of a cell
+-- excesses at W over two simplices of a cell
 pub cell-same : {P Form R : Type 0} → {sp : Space P Form} → {Mem : List P → Type 0} → {Reg : R → Type 0} → {func : R → Form → ℤ} → {N : R} → {A W : Form} → (t : Tri sp Mem Reg func N A W) → {V : List P} → {s : P → ℤ} → Cell t V s → (i j : P) (S S' : List P) → Alike V (i ∷ S) → Alike V (j ∷ S') → (x : P) (c c' : ℤ) (b b' : P → ℤ) →
     ((l : ℕ) → c *ℤ sp.hom l x ≡ qs (sp.hom l) b S) → ((l : ℕ) → c' *ℤ sp.hom l x ≡ qs (sp.hom l) b' S') → c' *ℤ excess (sp.val W) x S c b ≡ c *ℤ excess (sp.val W) x S' c' b'
 cell-same {P} {Form} {R} {sp} {Mem} {Reg} {func} {N} {A} {W} t {V} {s} k i j S S' al al' x c c' b b' e e' =
@@ -303,7 +309,7 @@ cell-own {P} {Form} {R} {sp} {Mem} {Reg} {func} {N} {A} {W} t {V} {s} k i S al n
     go (inl l) = (neg_ℤ (s i), s, neg-expr sp i S s l (cell-at t k i S al), neg-excess (sp.val W) i S s ∙ ap neg_ℤ zero)
     go (inr l) = (s i, λ v. neg_ℤ (s v), dep-expr sp i S s l (cell-at t k i S al), dep-excess (sp.val W) i S s ∙ zero)
 
--- C4: a simplex is in one cell
+-- a simplex is in one cell
 pub cell-one : {P Form R : Type 0} → {sp : Space P Form} → {Mem : List P → Type 0} → {Reg : R → Type 0} → {func : R → Form → ℤ} → {N : R} → {A W : Form} → (t : Tri sp Mem Reg func N A W) → {V V' : List P} → {s s' : P → ℤ} → Cell t V s → Cell t V' s' → (i j : P) (S : List P) → Alike V (i ∷ S) → Alike V' (j ∷ S) → s i ≢ pos 0 → i ≡ j
 cell-one {P} {Form} {R} {sp} {Mem} {Reg} {func} {N} {A} {W} t {V} {V'} {s} {s'} k k' i j S al al' nz =
     let o = cell-own t k i S al nz in

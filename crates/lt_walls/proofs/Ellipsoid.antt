@@ -30,7 +30,7 @@ between {P} {Form} sp Q def x u v nu nv n c a b pa pb e =
     two : (f : P → ℤ) → qs f s (u ∷ v ∷ []) ≡ a *ℤ f u +ℤ b *ℤ f v
     two f = upd-cons sp.dec u a (λ y. b) f (v ∷ []) out ∙ ap (λ z. a *ℤ f u +ℤ z) (qs-cons f (λ y. b) v [] ∙ ap (λ z. b *ℤ f v +ℤ z) (qs-nil f (λ y. b)) ∙ ring ((b *ℤ f v) ∷ []) (var 0 ⊕ num (pos 0)) (var 0) tt)
 
--- X5 at the common scale
+-- one point at most, at the common scale
 one-at : {P Form R : Type 0} → {sp : Space P Form} → {Mem : List P → Type 0} → {Reg : R → Type 0} → {func : R → Form → ℤ} → {N : R} → {A W : Form} → (t : Tri sp Mem Reg func N A W) → (S : List P) → Mem S → (w w' : P) → (In sp.dec w S → ⊥) → (In sp.dec w' S → ⊥) → (b b' : P → ℤ) → ((j : ℕ) → t.scale *ℤ sp.hom j w ≡ qs (sp.hom j) b S) → ((j : ℕ) → t.scale *ℤ sp.hom j w' ≡ qs (sp.hom j) b' S) →
     excess (sp.val W) w S t.scale b ≡ pos 0 → excess (sp.val W) w' S t.scale b' ≡ pos 0 → w ≡ w'
 one-at {P} {Form} {R} {sp} {Mem} {Reg} {func} {N} {A} {W} t S mem w w' out out' b b' e e' z z' = cases (find sp.dec b S)
@@ -200,7 +200,7 @@ one-at {P} {Form} {R} {sp} {Mem} {Reg} {func} {N} {A} {W} t S mem w w' out out' 
     cases (inl p) = second p.0 p.1 p.2 p.3 (find sp.dec b p.1)
     cases (inr h) = absurd (omega (arith, ints, t.scale_pos, ones b w e, qs-zero sp.dec (sp.hom 0) b S h))
 
--- X5 = the core of L5
+-- of the points outside a member, at most one lies on its ellipsoid of W
 pub one-outside : {P Form R : Type 0} → {sp : Space P Form} → {Mem : List P → Type 0} → {Reg : R → Type 0} → {func : R → Form → ℤ} → {N : R} → {A W : Form} → (t : Tri sp Mem Reg func N A W) → (S : List P) → Mem S → (w w' : P) → (In sp.dec w S → ⊥) → (In sp.dec w' S → ⊥) → (c c' : ℤ) (b b' : P → ℤ) → Expr sp w S c b → Expr sp w' S c' b' →
     excess (sp.val W) w S c b ≡ pos 0 → excess (sp.val W) w' S c' b' ≡ pos 0 → w ≡ w'
 one-outside {P} {Form} {R} {sp} {Mem} {Reg} {func} {N} {A} {W} t S mem w w' out out' c c' b b' e e' z z' =
@@ -211,7 +211,7 @@ one-outside {P} {Form} {R} {sp} {Mem} {Reg} {func} {N} {A} {W} t S mem w w' out 
     (rescale-zero (t.simp S mem) w c t.scale b (a.0) e x (sp.val W) z)
     (rescale-zero (t.simp S mem) w' c' t.scale b' (a'.0) e' x' (sp.val W) z')
 
--- X6: a point on the ellipsoid of W, beyond the facet F of v ∷ F, is the neighbour there
+-- a point on the ellipsoid of W, beyond the facet F of v ∷ F, is the neighbour there
 pub beyond : {P Form R : Type 0} → {sp : Space P Form} → {Mem : List P → Type 0} → {Reg : R → Type 0} → {func : R → Form → ℤ} → {N : R} → {A W : Form} → (t : Tri sp Mem Reg func N A W) → (v : P) (F : List P) → Mem (v ∷ F) → (x : P) → (In sp.dec x (v ∷ F) → ⊥) → (c : ℤ) (b : P → ℤ) → Expr sp x (v ∷ F) c b → excess (sp.val W) x (v ∷ F) c b ≡ pos 0 → b v <ℤ pos 0 →
     (w : P) → Mem (w ∷ F) → (o : Opp sp v w F) → (w ≡ x) × (rise (sp.val W) o ≡ pos 0)
 beyond {P} {Form} {R} {sp} {Mem} {Reg} {func} {N} {A} {W} t v F mem x out c b e z low w memw o = (one-outside t (v ∷ F) mem w x (opp-out sv (distinct-out sw.distinct) o) out o.c c (upd sp.dec v (neg_ℤ o.m) o.bs) b (opp-expr sv o) e (opp-excess sv o q ∙ flat) z, flat)
@@ -264,13 +264,13 @@ beyond {P} {Form} {R} {sp} {Mem} {Reg} {func} {N} {A} {W} t v F mem x out c b e 
     flat : rise q o ≡ pos 0
     flat = by_lt_z (pos 0) (rise q o) (λ l. absurd (omega (arith, ints, mul_neg_pos ((a.0) v) (rise q o) neg_a l, sum, mul_nonneg_z o.m (t.scale *ℤ q x -ℤ qs q (a'.0) (w ∷ F)) (omega (arith, ints, o.m_pos)) after))) (λ g. omega (arith, ints, g, up))
 
--- X6 as it is used
+-- as it is used
 pub next-member : {P Form R : Type 0} → {sp : Space P Form} → {Mem : List P → Type 0} → {Reg : R → Type 0} → {func : R → Form → ℤ} → {N : R} → {A W : Form} → (t : Tri sp Mem Reg func N A W) → (v : P) (F : List P) → Mem (v ∷ F) → (x : P) → (In sp.dec x (v ∷ F) → ⊥) → (c : ℤ) (b : P → ℤ) → Expr sp x (v ∷ F) c b → excess (sp.val W) x (v ∷ F) c b ≡ pos 0 → b v <ℤ pos 0 → Mem (x ∷ F)
 next-member {P} {Form} {R} {sp} {Mem} {Reg} {func} {N} {A} {W} t v F mem x out c b e z low =
     let n = t.closed v F mem in
     subst (λ y. Mem (y ∷ F)) ((beyond t v F mem x out c b e z low (n.0) (n.1) (n.2)).0) (n.1)
 
--- E4: members on the same side of a common facet are equal
+-- members on the same side of a common facet are equal
 pub one-side : {P Form : Type 0} → {sp : Space P Form} → (q : P → ℤ) (p w : P) (F : List P) → Simp sp (p ∷ F) → Strict sp q (p ∷ F) → Simp sp (w ∷ F) → Weak sp q (w ∷ F) → Same sp p w F → w ≡ p
 one-side {P} {Form} {sp} q p w F hp kp hw kw s = elim (in-cases sp.dec w p F (kp.touches w s.c (upd sp.dec p s.m s.bs) ex (excess-head sp.dec q w p F s.c s.m s.bs np ∙ zero))) [ inl e ↦ e | inr i ↦ absurd (nw i) ]
   where

@@ -26,7 +26,7 @@ unfolding Flipped
 flipped-alike t (inl k) al = inl (record { mem = t.alike k.mem al; none = λ o. k.none (record { V = o.V; s = o.s; i = o.i; cell = o.cell; above = o.above; rest = alike-trans o.rest (alike-cons o.i (alike-sym al)) }) })
 flipped-alike t (inr n) al = inr (record { V = n.V; s = n.s; u = n.u; cell = n.cell; below = n.below; rest = alike-trans n.rest (alike-cons n.u al) })
 
--- F2
+-- excesses at W over the flipped set aren't negative
 pub flipped-weak : {P Form R : Type 0} → {sp : Space P Form} → {Mem : List P → Type 0} → {Reg : R → Type 0} → {func : R → Form → ℤ} → {N : R} → {A W : Form} → (t : Tri sp Mem Reg func N A W) → (S : List P) → Flipped t S → Weak sp (sp.val W) S
 unfolding Flipped
 flipped-weak {W = W} t S (inl k) = wall-weak t W (its-wall t) S k.mem
@@ -74,7 +74,7 @@ new-low {P} {Form} {R} {sp} {Mem} {Reg} {func} {N} {A} {W} t S n c b e = by_lt_z
     eq : n.s u *ℤ excess (sp.val A) u S c b ≡ c *ℤ qs (sp.val A) n.s n.V
     eq = ap (λ y. n.s u *ℤ y) (excess-is (sp.val A) u S c b ∙ sym (sums (sp.val A))) ∙ parallel-sum t n.cell r (λ j. sums (sp.hom j) ∙ ring_by ((c *ℤ sp.hom j u) ∷ (qs (sp.hom j) b S) ∷ []) (var 0 ⊖ var 1) (num (pos 0)) (num (pos 1)) (var 0) (var 1) tt (e.is j)) u (in-alike (in-head sp.dec u S) (alike-sym n.rest)) (sp.val A) ∙ ap (λ y. y *ℤ qs (sp.val A) n.s n.V) (upd-at sp.dec u c (λ v. neg_ℤ (b v)))
 
--- F2: a point with the excess 0 at W that isn't a vertex
+-- a point with the excess 0 at W that isn't a vertex
 pub flipped-low : {P Form R : Type 0} → {sp : Space P Form} → {Mem : List P → Type 0} → {Reg : R → Type 0} → {func : R → Form → ℤ} → {N : R} → {A W : Form} → (t : Tri sp Mem Reg func N A W) → (S : List P) → Flipped t S → (x : P) → (In sp.dec x S → ⊥) → (c : ℤ) (b : P → ℤ) → Expr sp x S c b → excess (sp.val W) x S c b ≡ pos 0 → excess (sp.val A) x S c b <ℤ pos 0
 unfolding Flipped
 flipped-low {P} {Form} {R} {sp} {Mem} {Reg} {func} {N} {A} {W} t S (inl k) x out c b e z = absurd (out (kept-zeros t S k x c b e z))
@@ -83,7 +83,7 @@ flipped-low {P} {Form} {R} {sp} {Mem} {Reg} {func} {N} {A} {W} t S (inr n) x out
     same : x ≡ n.u
     same = elim (in-cases sp.dec x n.u S (in-alike (cell-zeros t n.cell n.u S n.rest x c b e z) n.rest)) [ inl q ↦ q | inr i ↦ absurd (out i) ]
 
--- ---- F3
+-- ---- neighbours in the flipped set
 
 pub record Next {P Form R : Type 0} {sp : Space P Form} {Mem : List P → Type 0} {Reg : R → Type 0} {func : R → Form → ℤ} {N : R} {A W : Form} (t : Tri sp Mem Reg func N A W) (p : P) (F : List P) : Type 0 where
   pub z : P
@@ -138,7 +138,7 @@ same-not-opp {P} {Form} {sp} {p} {w} {F} h a o = omega (
 pub on-not-head : {P Form : Type 0} → {sp : Space P Form} → {p : P} → {F : List P} → Simp sp (p ∷ F) → (c : ℤ) (bs : P → ℤ) → pos 0 <ℤ c → ((j : ℕ) → c *ℤ sp.hom j p ≡ qs (sp.hom j) bs F) → ⊥
 on-not-head {P} {Form} {sp} {p} {F} h c bs pc fl = omega (arith, ints, pc, (free-head h c (λ v. neg_ℤ (bs v)) (λ j. ap (λ y. c *ℤ sp.hom j p +ℤ y) (qs-minus (sp.hom j) bs F) ∙ ring_by ((c *ℤ sp.hom j p) ∷ (qs (sp.hom j) bs F) ∷ []) (var 0 ⊕ neg (var 1)) (num (pos 0)) (num (pos 1)) (var 0) (var 1) tt (fl j))).0)
 
--- step 1 of F3: what lies behind a facet of a member of T
+-- what lies behind a facet of a member of T
 behind : {P Form R : Type 0} → {sp : Space P Form} → {Mem : List P → Type 0} → {Reg : R → Type 0} → {func : R → Form → ℤ} → {N : R} → {A W : Form} → (t : Tri sp Mem Reg func N A W) → (s : P) (F : List P) → Mem (s ∷ F) →
     ((y : P) → (In sp.dec y F → ⊥) → (c : ℤ) (bs : P → ℤ) → Expr sp y F c bs → excess (sp.val W) y F c bs ≡ pos 0 → ⊥) →
     ((w : P) → Mem (w ∷ F) → Opp sp s w F → (V : List P) (r : P → ℤ) → Cell t V r → (i j : P) → Alike V (i ∷ s ∷ F) → Alike V (j ∷ w ∷ F) → pos 0 <ℤ r i → pos 0 <ℤ r j → ⊥) →
@@ -271,7 +271,7 @@ next-new-pos {P} {Form} {R} {sp} {Mem} {Reg} {func} {N} {A} {W} t r F n l = fini
     finish : Next t u F → Next t r F
     finish x = record { z = x.z; mem = x.mem; opp = same-opp side x.opp }
 
--- N0
+-- across a facet of a new simplex whose point has the number 0
 next-new-zero : {P Form R : Type 0} → {sp : Space P Form} → {Mem : List P → Type 0} → {Reg : R → Type 0} → {func : R → Form → ℤ} → {N : R} → {A W : Form} → (t : Tri sp Mem Reg func N A W) → (r : P) (F : List P) (n : New t (r ∷ F)) → n.s r ≡ pos 0 → Next t r F
 unfolding Flipped
 next-new-zero {P} {Form} {R} {sp} {Mem} {Reg} {func} {N} {A} {W} t r F n e = go (negative sp.dec (λ v. neg_ℤ (s v)) (u ∷ r ∷ F))
@@ -405,7 +405,7 @@ next-new-zero {P} {Form} {R} {sp} {Mem} {Reg} {func} {N} {A} {W} t r F n e = go 
         found (inl q) = absurd (omega (arith, ints, y_pos, n.below, ap s q))
         found (inr h) = elim (in-cases sp.dec y r F h) [ inl q ↦ absurd (omega (arith, ints, y_pos, e, ap s q)) | inr i ↦ inside i ]
 
--- F3: the flipped set is closed under facets
+-- the flipped set is closed under facets
 pub flipped-closed : {P Form R : Type 0} → {sp : Space P Form} → {Mem : List P → Type 0} → {Reg : R → Type 0} → {func : R → Form → ℤ} → {N : R} → {A W : Form} → (t : Tri sp Mem Reg func N A W) → (r : P) (F : List P) → Flipped t (r ∷ F) → Next t r F
 unfolding Flipped
 flipped-closed t r F (inl k) = next-kept t r F k
@@ -414,7 +414,7 @@ flipped-closed t r F (inr n) = elim (ℤ_discrete (n.s r) (pos 0)) [
   | no m ↦ elim (sign (n.s r) m) [ inl l ↦ next-new-neg t r F n l | inr l ↦ next-new-pos t r F n l ]
 ]
 
--- F4: what a facet of the flipped set shows
+-- what a facet of the flipped set shows
 pub flipped-rise : {P Form R : Type 0} → {sp : Space P Form} → {Mem : List P → Type 0} → {Reg : R → Type 0} → {func : R → Form → ℤ} → {N : R} → {A W : Form} → (t : Tri sp Mem Reg func N A W) → (r z : P) (F : List P) → Flipped t (r ∷ F) → Flipped t (z ∷ F) → (o : Opp sp r z F) → (pos 0 <ℤ rise (sp.val W) o) ⊎ ((rise (sp.val W) o ≡ pos 0) × (rise (sp.val A) o <ℤ pos 0))
 flipped-rise {P} {Form} {R} {sp} {Mem} {Reg} {func} {N} {A} {W} t r z F mr mz o = by_lt_z (pos 0) (rise (sp.val W) o) (λ l. inl l) (λ g. let e : rise (sp.val W) o ≡ pos 0 = omega (arith, ints, g, up) in inr (e, low e))
   where

@@ -86,7 +86,7 @@ above : (z : ℤ) → (n : ℕ) × (z <ℤ pos n)
 above (pos n) = (suc n, omega (arith, ints))
 above (negsuc n) = (zero, omega (arith, ints))
 
--- R4, the members: every one is strictly empty for Q
+-- every one is strictly empty for Q
 pub local-strict : {P Form : Type 0} → {sp : Space P Form} → {Mem : List P → Type 0} → {A Q : Form} → (t : Net sp Mem A Q) → (S : List P) → Mem S → Strict sp (sp.val Q) S
 local-strict {P} {Form} {sp} {Mem} {A} {Q} t S mem = record {
   weak = record { outside = λ x c b e. up x c b e (known x) };

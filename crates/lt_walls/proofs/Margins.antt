@@ -223,7 +223,7 @@ in-moved {P} dec m v (x ∷ S) i = go (in-cases dec v x S i) (in-moved dec m v S
     go (inl e) r = subst (λ y. In dec (m v) (m y ∷ moved m S)) e (in-head dec (m v) (moved m S))
     go (inr j) r = in-tail dec (m v) (m x) (moved m S) (r j)
 
--- F5
+-- from some m on each facet rises
 pub margin : {P Form R : Type 0} → {sp : Space P Form} → {Mem : List P → Type 0} → {Reg : R → Type 0} → {func : R → Form → ℤ} → {N : R} → {A W : Form} → (t : Tri sp Mem Reg func N A W) → (k : Moves t) → Finite t k → (m : ℤ) × ((mu : ℤ) → m ≤ℤ mu → Margin t mu)
 margin {P} {Form} {R} {sp} {Mem} {Reg} {func} {N} {A} {W} t k fin = (b.0, λ mu g. record { step = λ r F h. step mu g r F h })
   where
@@ -287,7 +287,7 @@ margin {P} {Form} {R} {sp} {Mem} {Reg} {func} {N} {A} {W} t k fin = (b.0, λ mu 
         in0 : In sp.dec r0 R0
         in0 = subst (λ q. In sp.dec r0 q) (moved-back t k y R0) (in-moved sp.dec (k.move (k.opposite y)) r (moved (k.move y) R0) (in-alike (in-head sp.dec r F) (c.3)))
 
--- ---- E3
+-- ---- a form for which a simplex is strictly empty is positive definite
 
 -- two points on both sides of u, at x - v from it
 pub record Spread {P Form : Type 0} (sp : Space P Form) (u x v : P) : Type 0 where
@@ -415,7 +415,7 @@ strict-definite {P} {Form} sp spread Q S simp strict u iu D D_pos coords = recor
         one_at_p : d12 p ≡ pos 1 +ℤ d3 p
         one_at_p = ap₂ (λ y z. pos 1 *ℤ y +ℤ pos 1 *ℤ z) (upd-at sp.dec p (pos 1) (λ y. pos 0)) (upd-off sp.dec p' (pos 1) (λ y. pos 0) p s.apart) ∙ ap (λ y. pos 1 +ℤ y) (sym (upd-off sp.dec u (pos 2) (λ y. pos 0) p s.p_off))
 
--- ---- L6: for each large m the flipped set is strictly empty for m W - A, which is positive definite; its closure under facets is `flipped-closed`
+-- ---- for each large m the flipped set is strictly empty for m W - A, which is positive definite; its closure under facets is `flipped-closed`
 pub flip-theorem : {P Form R : Type 0} → {sp : Space P Form} → {Mem : List P → Type 0} → {Reg : R → Type 0} → {func : R → Form → ℤ} → {N : R} → {A W : Form} → (t : Tri sp Mem Reg func N A W) → (k : Scale t) (mv : Moves t) → Finite t mv → ((u x v : P) → x ≢ v → Spread sp u x v) → (S : List P) → Flipped t S → (u : P) → In sp.dec u S →
     (m : ℤ) × ((mu : ℤ) → m ≤ℤ mu → ((R : List P) → Flipped t R → Strict sp (sp.val (sp.mix mu W (negsuc 0) A)) R) × Definite sp (sp.mix mu W (negsuc 0) A))
 flip-theorem {P} {Form} {R} {sp} {Mem} {Reg} {func} {N} {A} {W} t k mv fin spread S h u iu = (b.0, λ mu g. let e = flipped-strict t k mu (b.1 mu g) in (e, strict-definite sp spread (sp.mix mu W (negsuc 0) A) S (flipped-simp t S h) (e S h) u iu k.scale k.scale_pos (k.coords S h)))

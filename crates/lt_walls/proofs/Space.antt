@@ -98,7 +98,7 @@ same-at {P} {Form} {sp} {S} h s t e v i =
     let y : s v -ℤ t v ≡ pos 0 = h.free (λ v. s v -ℤ t v) z v i in
     omega (arith, ints, y)
 
--- S3: the excesses of two expressions of one point
+-- the excesses of two expressions of one point
 pub rescale : {P Form : Type 0} → {sp : Space P Form} → {S : List P} → Simp sp S → (x : P) (c c' : ℤ) (b b' : P → ℤ) →
     ((j : ℕ) → c *ℤ sp.hom j x ≡ qs (sp.hom j) b S) → ((j : ℕ) → c' *ℤ sp.hom j x ≡ qs (sp.hom j) b' S) →
     (q : P → ℤ) → c' *ℤ excess q x S c b ≡ c *ℤ excess q x S c' b'
@@ -141,7 +141,7 @@ excess-mixed sp m A n B x S c b =
     ap₂ (λ y z. c *ℤ y -ℤ z) (sp.mixed m A n B x) (qs-fun (sp.val (sp.mix m A n B)) (λ v. m *ℤ sp.val A v +ℤ n *ℤ sp.val B v) b (sp.mixed m A n B) S ∙ qs-of (sp.val A) (sp.val B) b m n S)
     ∙ ring (m ∷ n ∷ c ∷ (sp.val A x) ∷ (sp.val B x) ∷ (qs (sp.val A) b S) ∷ (qs (sp.val B) b S) ∷ []) (var 2 ⊗ (var 0 ⊗ var 3 ⊕ var 1 ⊗ var 4) ⊖ (var 0 ⊗ var 5 ⊕ var 1 ⊗ var 6)) (var 0 ⊗ (var 2 ⊗ var 3 ⊖ var 5) ⊕ var 1 ⊗ (var 2 ⊗ var 4 ⊖ var 6)) tt
 
--- E2: no inner points
+-- no inner points
 pub inner : {P Form : Type 0} → (sp : Space P Form) (Q : Form) → Definite sp Q → (x : P) (S : List P) (c : ℤ) (b : P → ℤ) → Expr sp x S c b → ((v : P) → In sp.dec v S → pos 0 ≤ℤ b v) → pos 0 ≤ℤ excess (sp.val Q) x S c b → In sp.dec x S
 unfolding excess
 inner {P} {Form} sp Q def x S c b e h le = elim (in-or sp.dec x S) [ inl i ↦ i | inr n ↦ absurd (no_way n) ]
@@ -246,7 +246,7 @@ opp-excess {P} {Form} {sp} {p} {w} {F} h o q = excess-head sp.dec q w p F o.c (n
 pub opp-out : {P Form : Type 0} → {sp : Space P Form} → {p w : P} → {F : List P} → Simp sp (p ∷ F) → (In sp.dec w F → ⊥) → Opp sp p w F → In sp.dec w (p ∷ F) → ⊥
 opp-out {P} {Form} {sp} {p} {w} {F} h n o i = elim (in-cases sp.dec w p F i) [ inl e ↦ opp-other h o e | inr j ↦ n j ]
 
--- W3: the exact change of the excess across a facet (the signs of c and m are free)
+-- the exact change of the excess across a facet (the signs of c and m are free)
 pub change : {P Form : Type 0} → {sp : Space P Form} → (p w : P) → {F : List P} → Simp sp (w ∷ F) → (X : ℕ → ℤ) (u c m : ℤ) (bs a b : P → ℤ) →
     ((j : ℕ) → c *ℤ sp.hom j w +ℤ m *ℤ sp.hom j p ≡ qs (sp.hom j) bs F) →
     ((j : ℕ) → X j ≡ qs (sp.hom j) a (p ∷ F)) → ((j : ℕ) → X j ≡ qs (sp.hom j) b (w ∷ F)) → (q : P → ℤ) →

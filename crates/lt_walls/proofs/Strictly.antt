@@ -279,7 +279,7 @@ rise-mixed sp m A n B {p} {w} {F} o =
     ∙ ring (m ∷ n ∷ o.c ∷ o.m ∷ (sp.val A w) ∷ (sp.val B w) ∷ (sp.val A p) ∷ (sp.val B p) ∷ (qs (sp.val A) o.bs F) ∷ (qs (sp.val B) o.bs F) ∷ []) (var 2 ⊗ (var 0 ⊗ var 4 ⊕ var 1 ⊗ var 5) ⊕ var 3 ⊗ (var 0 ⊗ var 6 ⊕ var 1 ⊗ var 7) ⊖ (var 0 ⊗ var 8 ⊕ var 1 ⊗ var 9)) (var 0 ⊗ (var 2 ⊗ var 4 ⊕ var 3 ⊗ var 6 ⊖ var 8) ⊕ var 1 ⊗ (var 2 ⊗ var 5 ⊕ var 3 ⊗ var 7 ⊖ var 9)) tt
     ∙ ap₂ (λ y z. m *ℤ y +ℤ n *ℤ z) (sym (rise-is (sp.val A) o)) (sym (rise-is (sp.val B) o))
 
--- the claim of F6 at one simplex, from the claim where the excess at W is smaller
+-- the claim at one simplex, from the claim where the excess at W is smaller
 onward : {P Form R : Type 0} → {sp : Space P Form} → {Mem : List P → Type 0} → {Reg : R → Type 0} → {func : R → Form → ℤ} → {N : R} → {A W : Form} → (t : Tri sp Mem Reg func N A W) → (k : Scale t) (m : ℤ) → Margin t m → (x : P) (n : ℕ) →
     ((S : List P) → Flipped t S → (a : P → ℤ) → Expr sp x S k.scale a → excess (sp.val W) x S k.scale a <ℤ pos n → In sp.dec x S ⊎ (pos 0 <ℤ excess (sp.val (sp.mix m W (negsuc 0) A)) x S k.scale a)) →
     (S : List P) → Flipped t S → (a : P → ℤ) → Expr sp x S k.scale a → excess (sp.val W) x S k.scale a <ℤ pos (suc n) → In sp.dec x S ⊎ (pos 0 <ℤ excess (sp.val (sp.mix m W (negsuc 0) A)) x S k.scale a)
@@ -384,7 +384,7 @@ above : (z : ℤ) → (n : ℕ) × (z <ℤ pos n)
 above (pos n) = (suc n, omega (arith, ints))
 above (negsuc n) = (zero, omega (arith, ints))
 
--- F6: every simplex of the flipped set is strictly empty for m W - A
+-- every simplex of the flipped set is strictly empty for m W - A
 pub flipped-strict : {P Form R : Type 0} → {sp : Space P Form} → {Mem : List P → Type 0} → {Reg : R → Type 0} → {func : R → Form → ℤ} → {N : R} → {A W : Form} → (t : Tri sp Mem Reg func N A W) → (k : Scale t) (m : ℤ) → Margin t m → (S : List P) → Flipped t S → Strict sp (sp.val (sp.mix m W (negsuc 0) A)) S
 flipped-strict {P} {Form} {R} {sp} {Mem} {Reg} {func} {N} {A} {W} t k m margin S mem = record {
   weak = record { outside = λ x c b e. up x c b e (known x) };

@@ -37,7 +37,7 @@ pub record IsWall {P Form R : Type 0} {sp : Space P Form} {Mem : List P → Type
   pub zero_there : func N V ≡ pos 0
   pub others : (M : R) → Reg M → M ≢ N → pos 0 <ℤ func M V
 
--- R5
+-- u is at least 0 where m u + v is for every m from 1 on
 pub limit : (u v : ℤ) → ((m : ℤ) → pos 1 ≤ℤ m → pos 0 ≤ℤ (m *ℤ u +ℤ v)) → pos 0 ≤ℤ u
 limit u v h = by_lt_z u (pos 0) (λ l. by_lt_z v (pos 0) (λ n. low l n) (λ g. high l g)) (λ g. g)
   where
@@ -51,7 +51,7 @@ limit u v h = by_lt_z u (pos 0) (λ l. by_lt_z v (pos 0) (λ n. low l n) (λ g. 
         let q : pos 0 ≤ℤ ((v +ℤ pos 1) *ℤ u +ℤ v) = h (v +ℤ pos 1) (omega (arith, ints, g)) in
         absurd (omega (arith, ints, p, e, q))
 
--- X1: every regulator is positive at m V + A
+-- every regulator is positive at m V + A
 above : {P Form R : Type 0} → {sp : Space P Form} → {Mem : List P → Type 0} → {Reg : R → Type 0} → {func : R → Form → ℤ} → {N : R} → {A W : Form} → (t : Tri sp Mem Reg func N A W) (V : Form) → IsWall t V → (m : ℤ) → pos 1 ≤ℤ m →
     (M : R) → Reg M → pos 0 <ℤ func M (sp.mix m V (pos 1) A)
 above {P} {Form} {R} {sp} {Mem} {Reg} {func} {N} {A} {W} t V w m g M r = go (t.decide M)
@@ -60,7 +60,7 @@ above {P} {Form} {R} {sp} {Mem} {Reg} {func} {N} {A} {W} t V w m g M r = go (t.d
     go (yes e) = omega (arith, ints, t.linear M m V (pos 1) A, t.rises M r, ring (m ∷ (func M A) ∷ []) (var 0 ⊗ num (pos 0) ⊕ num (pos 1) ⊗ var 1) (var 1) tt, ap (λ z. m *ℤ z +ℤ pos 1 *ℤ func M A) (ap (λ n. func n V) e ∙ w.zero_there))
     go (no n) = omega (arith, ints, t.linear M m V (pos 1) A, t.rises M r, ring ((func M A) ∷ []) (num (pos 1) ⊗ var 0) (var 0) tt, mul_nonneg_z m (func M V) (omega (arith, ints, g)) (omega (arith, ints, w.others M r n)))
 
--- X2
+-- a wall form is nowhere negative
 pub wall-weak : {P Form R : Type 0} → {sp : Space P Form} → {Mem : List P → Type 0} → {Reg : R → Type 0} → {func : R → Form → ℤ} → {N : R} → {A W : Form} → (t : Tri sp Mem Reg func N A W) (V : Form) → IsWall t V → (S : List P) → Mem S → Weak sp (sp.val V) S
 wall-weak {P} {Form} {R} {sp} {Mem} {Reg} {func} {N} {A} {W} t V w S h = record {
   outside = λ x c b e.
@@ -109,7 +109,7 @@ pressed-zero {P} {Form} {R} {sp} {Mem} {Reg} {func} {N} {A} {W} t f lin h z B e 
     let m0 : k.m *ℤ f W ≡ pos 0 = ap (λ y. k.m *ℤ y) z ∙ ring (k.m ∷ []) (var 0 ⊗ num (pos 0)) (num (pos 0)) tt in
     omega (arith, ints, lin.is k.m W (pos 1) B, lin.is k.m W (negsuc 0) B, h (sp.mix k.m W (pos 1) B) k.up, h (sp.mix k.m W (negsuc 0) B) k.down, m0)
 
--- X3: pressing
+-- pressing
 pub pressing : {P Form R : Type 0} → {sp : Space P Form} → {Mem : List P → Type 0} → {Reg : R → Type 0} → {func : R → Form → ℤ} → {N : R} → {A W : Form} → (t : Tri sp Mem Reg func N A W) (f : Form → ℤ) → Linear sp f → ((V : Form) → IsWall t V → pos 0 ≤ℤ f V) → f W ≡ pos 0 →
     (Q : Form) → func N A *ℤ f Q ≡ func N Q *ℤ f A
 pressing {P} {Form} {R} {sp} {Mem} {Reg} {func} {N} {A} {W} t f lin h z Q =
@@ -121,7 +121,7 @@ pressing {P} {Form} {R} {sp} {Mem} {Reg} {func} {N} {A} {W} t f lin h z Q =
     zero : func N B ≡ pos 0
     zero = t.linear N (func N A) Q (neg_ℤ (func N Q)) A ∙ ring ((func N A) ∷ (func N Q) ∷ []) (var 0 ⊗ var 1 ⊕ neg (var 1) ⊗ var 0) (num (pos 0)) tt
 
--- X4 = L4: a wall form is positive definite
+-- a wall form is positive definite
 pub wall-definite : {P Form R : Type 0} → {sp : Space P Form} → {Mem : List P → Type 0} → {Reg : R → Type 0} → {func : R → Form → ℤ} → {N : R} → {A W : Form} → (t : Tri sp Mem Reg func N A W) → Definite sp W
 wall-definite {P} {Form} {R} {sp} {Mem} {Reg} {func} {N} {A} {W} t = record { above = λ x v n. by_lt_z (pos 0) (sp.val W (sp.sub x v)) (λ l. l) (λ g. absurd (flat x v n (omega (arith, ints, g, wall-nonneg t W (its-wall t) (sp.sub x v))))) }
   where
