@@ -20,3 +20,14 @@ pub mod Exchanges
 pub mod PlaneFlips
 pub mod PlaneMatrices
 pub mod FirstLaws
+pub mod Matrices
+pub mod Rearranged
+pub mod Sorting
+pub mod Induced
+pub mod Motions
+pub mod Images
+pub mod Carried
+pub mod Regulated
+pub mod Crossed
+pub mod Candidates
+pub mod Counted

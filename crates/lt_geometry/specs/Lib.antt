@@ -3,3 +3,4 @@ pub mod Laws
 pub mod FirstLaws
 pub mod Principal
 pub mod Plane
+pub mod Carrying
