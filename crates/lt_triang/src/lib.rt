@@ -13,5 +13,5 @@ mod vertices;
 pub use classes::{Class, Flat};
 pub use expressions::Expression;
 pub use neighbours::Neighbour;
-pub use spans::{are_near, span_limit};
+pub use spans::{are_near, span_limit, span_of};
 pub use triangulations::{TriangError, Triangulation};
