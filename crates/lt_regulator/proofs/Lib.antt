@@ -2,3 +2,4 @@ mod Multiples
 mod Excesses
 mod Positive
 mod Collected
+mod Listed

@@ -1,16 +1,9 @@
--- The regulator at a facet of a member.
-use Rattle.std.specs.Prelude.{ℕ, suc, ℤ, ◌≡◌, ◌<◌, List, [], get_or}
+-- Lists that hold the regulators at facets of members.
+use Rattle.std.specs.Prelude.{ℕ, suc, ℤ, ◌<◌, List, [], get_or}
 use Rattle.std.specs.List.{Contains}
-use Rattle.lt_model.specs.Walls.{IsPair, IsRegulator}
+use Rattle.lt_model.specs.Walls.{IsRegulator}
+use Rattle.lt_geometry.specs.Regulators.{IsRegulatorAt}
 use Rattle.lt_triang.specs.Kept.{dimension_of}
-
--- n is the regulator of the member s and its neighbour at facet i
-pub record IsRegulatorAt (d : ℕ) (t : List (List (List ℤ))) (s : List (List ℤ)) (i : ℕ) (n : List ℤ) : Type 0 where
-  pub vertex : List ℤ
-  pub factor : ℤ
-  pub coefficients : List ℤ
-  pub pair : IsPair d t n s vertex factor coefficients
-  pub facet : pair.facet ≡ i
 
 -- the normals hold a regulator for each facet of the member
 pub record HasRegulatorsOf (t : List (List (List ℤ))) (m facets : ℕ) (ns : List (List ℤ)) : Type 0 where

@@ -6,7 +6,8 @@ ghost use Rattle.std.specs.List.Sorted.{IsStrictlySortedBy};
 ghost use Rattle.lt_model.specs.Order.{number_list_cmp};
 ghost use Rattle.lt_model.specs.Walls.{AreRegulators};
 ghost use Rattle.lt_triang.specs.Kept.{dimension_of, IsOfSomeForm};
-ghost use Rattle.lt_regulator.specs.Regulated.{IsRegulatorAt, HasRegulatorsBelow};
+ghost use Rattle.lt_geometry.specs.Regulators.{IsRegulatorAt};
+ghost use Rattle.lt_regulator.specs.Regulated.{HasRegulatorsBelow};
 
 use crate::excess::excess_of;
 use lt_lattice::Normal;

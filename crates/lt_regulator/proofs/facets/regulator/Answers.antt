@@ -1,0 +1,1 @@
+use Rattle.lt_regulator.proofs.facets.regulator.Goals as goal
