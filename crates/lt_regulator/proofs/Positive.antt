@@ -16,7 +16,7 @@ use Rattle.lt_geometry.proofs.Regulators.{lies_above, length-at}
 use Rattle.lt_num.specs.Divisors.{DividesEach, IsGcdOf, MadePrimitive}
 use Rattle.lt_solve.proofs.Lowest.{IsDivided, divided, primitive_from_gcd, below_multiple}
 use Rattle.lt_lattice.specs.Ranges.{IsBelow}
-use Rattle.lt_triang.specs.Across.{IsOuterVertex}
+use Rattle.lt_regulator.specs.Regulated.{IsOuterExcess}
 
 -- ---- numbers that aren't all 0 have no large common divisor
 
@@ -37,21 +37,14 @@ not_too_large xs h n s = n (zeros_from_large xs h.divides s)
 
 -- ---- the excess of an outer vertex
 
--- an outer vertex w of the member s at facet i, and an expression of w
-pub record IsOuterExpression (d : ℕ) (q : List ℤ) (t : List (List (List ℤ))) (s : List (List ℤ)) (i : ℕ) (w : List ℤ) (c : ℤ) (b : List ℤ) : Type 0 where
-  pub delaunay : IsDelaunay d q t
-  pub member : Contains t s
-  pub place : i < suc d
-  pub outer : IsOuterVertex d t s i w
-  pub expression : IsExpression s w c b
-
-not_zero : (d : ℕ) (q : List ℤ) (t : List (List (List ℤ))) (s : List (List ℤ)) (i : ℕ) (w : List ℤ) (c : ℤ) (b : List ℤ) → IsOuterExpression d q t s i w c b → excess_normal s w c b ≢ zeros (length (excess_normal s w c b))
-not_zero d q t s i w c b h e =
+pub not_zero : (d : ℕ) (q : List ℤ) (t : List (List (List ℤ))) (s : List (List ℤ)) (i : ℕ) (old : List ℤ) → IsDelaunay d q t → Contains t s → i < suc d → IsOuterExcess d t s i old → old ≢ zeros (length old)
+not_zero d q t s i old k m hi h e =
     let o = h.outer in
-    let p : pos 0 <ℤ dot (excess_normal s w c b) q =
-    subst (λ (x : List ℤ). pos 0 <ℤ dot (excess_normal s x c b) q) (sym o.vertex) (lies_above d q t s i o.next o.shift o.outer c b h.delaunay h.member h.place o.neighbour (subst (λ (x : List ℤ). IsExpression s x c b) o.vertex h.expression)) in
-    let z : dot (excess_normal s w c b) q ≡ pos 0 = ap (λ (x : List ℤ). dot x q) e ∙ zeros-dot (length (excess_normal s w c b)) q in
-    omega (arith, ints, z, p)
+    let p : pos 0 <ℤ dot (excess_normal s h.vertex h.c h.b) q =
+    subst (λ (x : List ℤ). pos 0 <ℤ dot (excess_normal s x h.c h.b) q) (sym o.vertex) (lies_above d q t s i o.next o.shift o.outer h.c h.b k m hi o.neighbour (subst (λ (x : List ℤ). IsExpression s x h.c h.b) o.vertex h.expression)) in
+    let z : dot old q ≡ pos 0 = ap (λ (x : List ℤ). dot x q) e ∙ zeros-dot (length old) q in
+    let p' : pos 0 <ℤ dot old q = subst (λ (x : List ℤ). pos 0 <ℤ dot x q) (sym h.value) p in
+    omega (arith, ints, z, p')
 
 natural : (g : ℤ) → pos 0 <ℤ g → (m : ℕ) × (g ≡ pos m) × (0 < m)
 natural (pos m) h = (m, refl, omega (arith, ints))
@@ -63,31 +56,26 @@ pub record IsMade (d : ℕ) (t : List (List (List ℤ))) (s : List (List ℤ)) (
   pub count : length n ≡ numbers_of_form d
   pub below : All (IsBelow (2 ^ 80)) n
 
-pub made : (d : ℕ) (q : List ℤ) (t : List (List (List ℤ))) (s : List (List ℤ)) (i : ℕ) (w : List ℤ) (c : ℤ) (b old n : List ℤ) (g : ℤ) → IsOuterExpression d q t s i w c b → old ≡ excess_normal s w c b → All (IsBelow (2 ^ 80)) old → MadePrimitive old g n → IsMade d t s i n
-made d q t s i w c b old n g h e below p =
+pub made : (d : ℕ) (q : List ℤ) (t : List (List (List ℤ))) (s : List (List ℤ)) (i : ℕ) (old n : List ℤ) (g : ℤ) → IsDelaunay d q t → Contains t s → i < suc d → IsOuterExcess d t s i old → All (IsBelow (2 ^ 80)) old → MadePrimitive old g n → IsMade d t s i n
+made d q t s i old n g k m hi h below p =
     let o = h.outer in
-    let z : old ≢ zeros (length old) = subst (λ (x : List ℤ). x ≢ zeros (length x)) (sym e) (not_zero d q t s i w c b h) in
-    let v : IsDivided old n g = divided old n g p z in
+    let v : IsDivided old n g = divided old n g p (not_zero d q t s i old k m hi h) in
     let f = natural g v.positive in
-    let multiple : excess_normal s w c b ≡ scale (pos f.0) n = sym e ∙ v.multiple ∙ ap (λ (k : ℤ). scale k n) f.1 in
+    let multiple : excess_normal s h.vertex h.c h.b ≡ scale (pos f.0) n = sym h.value ∙ v.multiple ∙ ap (λ (l : ℤ). scale l n) f.1 in
     let r : IsRegulatorAt d t s i n = record {
       next = o.next;
       shift = o.shift;
       outer = o.outer;
       neighbour = o.neighbour;
-      c = c;
-      b = b;
-      expression = subst (λ (x : List ℤ). IsExpression s x c b) o.vertex h.expression;
+      c = h.c;
+      b = h.b;
+      expression = subst (λ (x : List ℤ). IsExpression s x h.c h.b) o.vertex h.expression;
       primitive = primitive_from_gcd n v.lowest;
       factor = f.0;
       some = f.2;
-      multiple = subst (λ (x : List ℤ). excess_normal s x c b ≡ scale (pos f.0) n) o.vertex multiple;
+      multiple = subst (λ (x : List ℤ). excess_normal s x h.c h.b ≡ scale (pos f.0) n) o.vertex multiple;
     } in
-    record {
-      regulator = r;
-      count = length-at d q t s i n h.delaunay h.member r;
-      below = below_multiple (2 ^ 80) g n v.some (subst (λ (x : List ℤ). All (IsBelow (2 ^ 80)) x) v.multiple below);
-    }
+    record { regulator = r; count = length-at d q t s i n k m r; below = below_multiple (2 ^ 80) g n v.some (subst (λ (x : List ℤ). All (IsBelow (2 ^ 80)) x) v.multiple below) }
 
-pub too_large : (d : ℕ) (q : List ℤ) (t : List (List (List ℤ))) (s : List (List ℤ)) (i : ℕ) (w : List ℤ) (c : ℤ) (b old : List ℤ) → IsOuterExpression d q t s i w c b → old ≡ excess_normal s w c b → All (IsBelow (2 ^ 80)) old → IsGcdOf old (2 ^ 127) → ⊥
-too_large d q t s i w c b old h e below g = not_too_large old g (subst (λ (x : List ℤ). x ≢ zeros (length x)) (sym e) (not_zero d q t s i w c b h)) below
+pub too_large : (d : ℕ) (q : List ℤ) (t : List (List (List ℤ))) (s : List (List ℤ)) (i : ℕ) (old : List ℤ) → IsDelaunay d q t → Contains t s → i < suc d → IsOuterExcess d t s i old → All (IsBelow (2 ^ 80)) old → IsGcdOf old (2 ^ 127) → ⊥
+too_large d q t s i old k m hi h below g = not_too_large old g (not_zero d q t s i old k m hi h) below

@@ -1,4 +1,3 @@
-use Rattle.std.proofs.Common.{List, ℤ}
 use Rattle.lt_regulator.proofs.Listed.{IsListed}
 use Rattle.lt_regulator.proofs.facets.push_regulators_of.Given as goal
 
