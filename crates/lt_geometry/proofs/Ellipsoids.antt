@@ -1,5 +1,5 @@
 -- At most d + 2 integer points lie on an empty ellipsoid of a wall form.
-use Rattle.std.proofs.Common.{◌≡◌, ◌≢◌, ℕ, zero, suc, ℤ, pos, negsuc, ◌+ℤ◌, ◌-ℤ◌, ◌*ℤ◌, ◌<ℤ◌, ◌≤ℤ◌, ◌<◌, ◌≤◌, refl, ap, ap₂, arith, sym, ◌∙◌, subst, List, [], ◌∷◌, length, map, get_or, ◌⊎◌, inl, inr}
+use Rattle.std.proofs.Common.{◌≡◌, ℕ, suc, ℤ, pos, ◌+ℤ◌, ◌*ℤ◌, ◌<ℤ◌, ◌≤ℤ◌, ◌<◌, ◌≤◌, ap, ap₂, arith, sym, ◌∙◌, subst, List, [], ◌∷◌, length, map, ◌⊎◌, inl, inr}
 use Rattle.std.proofs.lemmas.Int.{ints}
 use Rattle.std.specs.List.{Contains, AllByRecursion}
 use Rattle.std.specs.List.Sorted.{IsStrictlySortedBy}
@@ -15,9 +15,9 @@ use Rattle.lt_model.proofs.Sets.{Contains-head, Contains-tail, Contains-cases, C
 use Rattle.lt_walls.proofs.Walls.{limit}
 use Rattle.lt_model.specs.Order.{number_list_cmp}
 use Rattle.lt_model.specs.Vectors.{plus, scale, dot, total, combine, ones}
-use Rattle.lt_model.specs.Forms.{value, numbers_of_form}
+use Rattle.lt_model.specs.Forms.{value}
 use Rattle.lt_model.specs.Facets.{without}
-use Rattle.lt_model.specs.Simplices.{AllOfDimension, IsSimplex, IsExpression, excess, translate}
+use Rattle.lt_model.specs.Simplices.{AllOfDimension, IsSimplex, excess, translate}
 use Rattle.lt_model.specs.Triangulations.{IsDelaunay}
 use Rattle.lt_model.specs.Walls.{IsRegulator, IsWallForm, excess_normal}
 use Rattle.lt_geometry.proofs.WalkEnds.{HasCommon, common}
@@ -103,9 +103,9 @@ fits (u ∷ us) vs s h =
     let (i, l, e) = h u (Contains-head u us) in
     let short = length-without i vs l in
     let r = fits us (without i vs) s.1 (λ x c. elim (one_or_other vs i x (h x (Contains-tail u us x c))) [
-        | inl same ↦ absurd (never_below_itself number_list_cmp number_list_cmp_total u (subst (λ y. number_list_cmp u y ≡ Less) (sym same ∙ any_default vs i [] u l ∙ e) (each_holds (λ y. number_list_cmp u y ≡ Less) us x s.0 c)))
-        | inr there ↦ there
-      ])
+      | inl same ↦ absurd (never_below_itself number_list_cmp number_list_cmp_total u (subst (λ y. number_list_cmp u y ≡ Less) (sym same ∙ any_default vs i [] u l ∙ e) (each_holds (λ y. number_list_cmp u y ≡ Less) us x s.0 c)))
+      | inr there ↦ there
+    ])
     in
     omega (arith, short, r)
 
@@ -174,12 +174,12 @@ few_points d a w n t two de wall e k l he outside (u ∷ us) up all on = from (o
 
     from : (s : List (List ℤ)) × (p : List ℤ) × Contains t s × (length p ≡ d) × AllByRecursion (λ z. IsOn w (translate p s) z) ps → length ps ≤ suc (suc d)
     from (s, p, ms, lp, there) = elim (all_or_one vs ps) [
-        | inl inside ↦ (let r = fits ps vs up inside in omega (arith, r, count))
-        | inr one ↦ (let r = fits ps (one.0 ∷ vs) up (λ x c. elim (member_dec vs x) [
-            | inl m ↦ Contains-tail one.0 vs x m
-            | inr out ↦ subst (Contains (one.0 ∷ vs)) (same one.0 x one.1 one.2 c out) (Contains-head one.0 vs)
-          ]) in omega (arith, r, count))
-      ]
+      | inl inside ↦ (let r = fits ps vs up inside in omega (arith, r, count))
+      | inr one ↦ (let r = fits ps (one.0 ∷ vs) up (λ x c. elim (member_dec vs x) [
+        | inl m ↦ Contains-tail one.0 vs x m
+        | inr out ↦ subst (Contains (one.0 ∷ vs)) (same one.0 x one.1 one.2 c out) (Contains-head one.0 vs)
+      ]) in omega (arith, r, count))
+    ]
       where
         vs : List (List ℤ)
         vs = translate p s

@@ -1,7 +1,7 @@
 -- The height of a sum of points over a strictly empty simplex is at most the sum of their values.
 use Rattle.std.proofs.Common.{◌≡◌, ℕ, ℤ, pos, ◌+ℤ◌, ◌-ℤ◌, ◌*ℤ◌, ◌<ℤ◌, ◌≤ℤ◌, refl, ap, arith, sym, ◌∙◌, List, [], ◌∷◌, length, map, inl, inr}
 use Rattle.std.proofs.lemmas.Int.{ints}
-use Rattle.std.specs.List.{AllByRecursion, Contains}
+use Rattle.std.specs.List.{AllByRecursion}
 use Rattle.lt_model.proofs.Integers.{spread, triple_is}
 use Rattle.std.proofs.Math.IntN.{*ℤ-zero}
 use Rattle.lt_model.proofs.Vectors.{dot-scale}
@@ -14,7 +14,7 @@ use Rattle.lt_geometry.proofs.Uniform.{total-zeros}
 use Rattle.lt_model.proofs.Expressions.{total-plus, total-scale}
 use Rattle.lt_model.specs.Vectors.{plus, scale, dot, total, zeros}
 use Rattle.lt_model.specs.Forms.{value}
-use Rattle.lt_model.specs.Simplices.{AllOfDimension, IsExpression, IsStrictlyEmpty, excess}
+use Rattle.lt_model.specs.Simplices.{AllOfDimension, IsExpression, excess}
 
 -- a point with its numbers over vs, all with the scale c
 pub record HasEach (d : ℕ) (vs : List (List ℤ)) (c : ℤ) : Type 0 where

@@ -1,8 +1,11 @@
 -- Laws of wall forms and their empty ellipsoids.
-use Rattle.std.specs.Prelude.{ℕ, ℤ, pos, ◌≤◌, List, length, ◌≡◌}
+use Rattle.std.specs.Prelude.{ℕ, suc, ℤ, pos, ◌+ℤ◌, ◌*ℤ◌, ◌<ℤ◌, ◌≤ℤ◌, ◌≤◌, List, length, ◌≡◌}
 use Rattle.std.specs.List.{Contains}
-use Rattle.lt_model.specs.Forms.{IsPositiveDefinite}
-use Rattle.lt_model.specs.Simplices.{IsExpression, excess}
+use Rattle.std.specs.List.Sorted.{IsStrictlySortedBy}
+use Rattle.lt_model.specs.Order.{number_list_cmp}
+use Rattle.lt_model.specs.Vectors.{dot}
+use Rattle.lt_model.specs.Forms.{value, IsPositiveDefinite}
+use Rattle.lt_model.specs.Simplices.{AllOfDimension, IsExpression, excess}
 use Rattle.lt_model.specs.Triangulations.{IsDelaunay}
 use Rattle.lt_model.specs.Walls.{IsWallForm}
 
