@@ -44,3 +44,13 @@ pub mod ExchangeLaws
 pub mod FlipOf
 pub mod Listed
 pub mod Reached
+pub mod Matrices
+pub mod Rearranged
+pub mod Induced
+pub mod Motions
+pub mod Images
+pub mod Carried
+pub mod Regulated
+pub mod Crossed
+pub mod Candidates
+pub mod Counted

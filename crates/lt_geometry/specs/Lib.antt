@@ -7,3 +7,4 @@ pub mod Regulators
 pub mod Walls
 pub mod Flips
 pub mod Exchanges
+pub mod Carrying

@@ -9,6 +9,7 @@ ghost use Rattle.lt_geometry.specs.Exchanges.{ExchangedAreMembers, OneOuterVerte
 ghost use Rattle.lt_geometry.specs.Flips.{FlipsAreDelaunay, FlipsAreAcross, FlipsExist, AcrossIsFlip, OneAcross, ReachedByFlips};
 ghost use Rattle.lt_geometry.specs.Plane.{PlaneIsDelaunay, PlaneRegulators, PlaneWalls, PlaneFlips, PlaneMatrices};
 ghost use Rattle.lt_geometry.specs.Principal.{PrincipalIsDelaunay, PrincipalRegulators, PrincipalFacets};
+ghost use Rattle.lt_geometry.specs.Carrying.{IsEquivalentToItself, InverseCarriesBack, ProductsCarry, ImagesAreDelaunay, CrossingsAreCarried, FlipsAreCarried, WhatCarriesIsACandidate, OrdersHaveOneCandidate};
 
 /// `N(Q)` is linear in the form `Q`.
 pub fn normals_are_linear()
@@ -195,4 +196,28 @@ pub fn plane_flips()
 /// Three matrices that carry the flips back onto the principal triangulation.
 pub fn plane_matrices()
     ensures { PlaneMatrices }
+{}
+
+/// The identity carries each set of classes onto itself, an inverse carries back, and a product carries where its factors do.
+pub fn carrying_is_an_equivalence()
+    ensures itself { IsEquivalentToItself }
+    ensures back { InverseCarriesBack }
+    ensures product { ProductsCarry }
+{}
+
+/// The ascending image of the Delaunay triangulation of a form is that of the form at the inverse images.
+pub fn images_are_delaunay()
+    ensures { ImagesAreDelaunay }
+{}
+
+/// What is across a facet of a triangulation goes to what is across a facet of its image, and so does the flip at a facet.
+pub fn crossings_are_carried()
+    ensures across { CrossingsAreCarried }
+    ensures flip { FlipsAreCarried }
+{}
+
+/// Each matrix that carries comes from an order of the vertices of a member, which determines it.
+pub fn matrices_come_from_orders()
+    ensures each { WhatCarriesIsACandidate }
+    ensures one { OrdersHaveOneCandidate }
 {}

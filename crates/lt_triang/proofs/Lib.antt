@@ -11,3 +11,4 @@ pub mod Parallel
 pub mod Gaps
 pub mod Made
 pub mod Distinct
+pub mod Expressed

@@ -1,0 +1,4 @@
+//! Unimodular matrices that carry one triangulation onto another.
+#![tactic(auto)]
+
+mod images;

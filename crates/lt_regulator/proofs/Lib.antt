@@ -1,0 +1,4 @@
+mod Multiples
+mod Excesses
+mod Positive
+mod Collected

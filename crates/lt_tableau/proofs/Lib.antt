@@ -1,0 +1,14 @@
+pub mod Sums
+pub mod Exchanges
+pub mod Largest
+pub mod Light
+pub mod Kept
+pub mod Stored
+pub mod Best
+pub mod Starts
+pub mod Steps
+pub mod Capped
+pub mod Fits
+pub mod Turned
+pub mod Made
+pub mod Bounds

@@ -1,0 +1,12 @@
+//! The tableau of the pivot rule in whole numbers over one denominator, and the weight that bounds them.
+#![tactic(auto)]
+
+mod error;
+mod pivots;
+mod systems;
+mod tableau;
+mod weights;
+
+pub use error::TableauError;
+pub use tableau::Tableau;
+pub use weights::weight;
