@@ -36,6 +36,7 @@ pub mod Regulators
 pub mod Line
 pub mod LocalForms
 pub mod LocalToGlobal
+pub mod Ellipsoids
 pub mod Sorting
 pub mod HasClasses
 pub mod Exchanged

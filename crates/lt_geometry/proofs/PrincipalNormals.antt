@@ -25,7 +25,7 @@ use Rattle.lt_geometry.proofs.Closed.{three, three-dot, IsThird, third_expressio
 use Rattle.lt_geometry.proofs.Neighbours.{HasNeighbour, has_neighbour, first, middle, down_from, down_order, principal_paving}
 use Rattle.lt_geometry.proofs.Unique.{one_neighbour, weighted}
 use Rattle.lt_geometry.proofs.Primitive.{same_primitive, primitive_from_one}
-use Rattle.lt_geometry.proofs.Normals.{normal_dot, length-normal}
+pub use Rattle.lt_geometry.proofs.Normals.{normal_dot, length-normal}
 use Rattle.lt_geometry.proofs.Products.{product_form, length-product, less_square, pair_at_less, own_at_less, pair_at, length-pair, length-own, pair_one, own_one}
 
 -- ---- the stated normals

@@ -4,7 +4,7 @@
 ghost use Rattle.lt_geometry.specs.Laws.{EveryPavingIsDelaunay, FormsHaveOneTriangulation};
 ghost use Rattle.lt_geometry.specs.FirstLaws.{NormalsAreLinear, ValuesAreLinear, ParallelogramLaw, ExcessesMoveAlong, ExpressionsAreProportional};
 ghost use Rattle.lt_geometry.specs.Regulators.{PointsInsideAreVertices, MembersLieOpposite, NeighboursAreUnique, NeighboursAreMutual, OuterVerticesLieAbove, FacetsHaveOneRegulator, RegulatorsAreMutual, RegulatorsArePositive, TriangulationsHaveRegulators, LocalToGlobal};
-ghost use Rattle.lt_geometry.specs.Walls.{WallFormsAreDefinite, OnePointOnEllipsoid};
+ghost use Rattle.lt_geometry.specs.Walls.{WallFormsAreDefinite, OnePointOnEllipsoid, FewPointsOnEllipsoid};
 ghost use Rattle.lt_geometry.specs.Exchanges.{ExchangedAreMembers, OneOuterVertex, MadeFromExchanged};
 ghost use Rattle.lt_geometry.specs.Flips.{FlipsAreDelaunay, FlipsAreAcross, FlipsExist, AcrossIsFlip, OneAcross, ReachedByFlips};
 ghost use Rattle.lt_geometry.specs.Plane.{PlaneIsDelaunay, PlaneRegulators, PlaneWalls, PlaneFlips, PlaneMatrices};
@@ -120,6 +120,11 @@ pub fn wall_forms_are_definite()
 /// Of the points outside a member at most one has the excess 0 at a wall form.
 pub fn one_point_on_ellipsoid()
     ensures { OnePointOnEllipsoid }
+{}
+
+/// At most d + 2 integer points lie on an empty ellipsoid of a wall form.
+pub fn few_points_on_ellipsoid()
+    ensures { FewPointsOnEllipsoid }
 {}
 
 /// The simplices that a flip takes out are the members with the regulator at a facet.
