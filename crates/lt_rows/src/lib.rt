@@ -10,3 +10,5 @@ mod lattice;
 mod numbers;
 #[cfg(test)]
 mod systems;
+#[cfg(test)]
+mod tableau;
