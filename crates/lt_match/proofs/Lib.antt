@@ -1,2 +1,6 @@
 pub mod Ordered
 pub mod Placed
+pub mod Multiples
+pub mod Written
+pub mod Quotients
+pub mod Weighed

@@ -1,4 +1,5 @@
 //! Unimodular matrices that carry one triangulation onto another.
 #![tactic(auto)]
 
+mod bases;
 mod images;
