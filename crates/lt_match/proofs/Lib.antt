@@ -4,3 +4,4 @@ pub mod Multiples
 pub mod Written
 pub mod Quotients
 pub mod Weighed
+pub mod Taking
