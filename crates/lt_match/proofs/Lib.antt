@@ -5,3 +5,4 @@ pub mod Written
 pub mod Quotients
 pub mod Weighed
 pub mod Taking
+pub mod Entries

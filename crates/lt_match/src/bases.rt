@@ -1,6 +1,6 @@
 //! Matrices from where they take the vertices of a simplex.
 
-ghost use Rattle.std.specs.Prelude.{◌≡◌, ◌<◌, ◌≤◌, ◌*◌, ◌+◌, ◌^◌, ◌++◌, ◌≤ℤ◌, ◌<ℤ◌, ◌*ℤ◌, suc, ℕ, ℤ, pos, List, [], length, map, get_or, drop, nat_abs, MatchOption};
+ghost use Rattle.std.specs.Prelude.{◌≡◌, ◌<◌, ◌≤◌, ◌*◌, ◌+◌, ◌^◌, ◌++◌, ◌≤ℤ◌, ◌<ℤ◌, ◌*ℤ◌, suc, ℕ, ℤ, pos, List, [], length, map, get_or, drop, nat_abs, MatchOption, IfSome};
 ghost use Rattle.std.specs.List.{All};
 ghost use Rattle.lt_model.specs.Vectors.{scale, dot, unit, zeros};
 ghost use Rattle.lt_model.specs.Facets.{number_at};
@@ -12,7 +12,7 @@ ghost use Rattle.lt_lattice.specs.Ranges.{IsBelow};
 ghost use Rattle.lt_solve.specs.Systems.{column_limit, answer_limit};
 ghost use Rattle.lt_triang.specs.Bounds.{AreWithin};
 ghost use Rattle.lt_match.specs.Images.{TakesTo};
-ghost use Rattle.lt_match.specs.Bases.{IsBasis};
+ghost use Rattle.lt_match.specs.Bases.{IsBasis, IsSomeBasis, IsEntry};
 
 use arrayvec::ArrayVec;
 use lt_lattice::{Matrix, Point};
@@ -159,4 +159,53 @@ fn exact_quotient(number: i128, divisor: i128) -> Option<i128>
     } else {
         None
     }
+}
+
+/// Row `j` of the terms.
+fn terms_at(d: usize, terms: &[i128], j: usize) -> &[i128]
+    requires few { d ≤ 6 }
+    requires count { length terms.now ≡ d * d }
+    requires place { j < d }
+    ensures { result.now ≡ get_or (rows d terms.now) j [] }
+{
+    &terms[j * d..j * d + d]
+}
+
+/// The number at row `k` and column `j` of the matrix that takes the vertices to the targets, or None where it isn't whole.
+fn entry(d: usize, basis: &Basis, targets: &[Point], k: usize, j: usize) -> Option<i128>
+    requires few { d ≤ 6 }
+    requires basis { IsSomeBasis d basis.now.scales.items basis.now.terms.items }
+    requires count { length targets.now ≡ suc d }
+    requires dimension { AllOfDimension d targets.now }
+    requires near { AreWithin (limits.span_limit d) targets.now }
+    requires row { k < d }
+    requires column { j < d }
+    ensures { MatchOption result ((x : ℤ) → IsEntry d basis.now.scales.items basis.now.terms.items targets.now k j x → ⊥) (λ x. IsEntry d basis.now.scales.items basis.now.terms.items targets.now k j x × IsBelow (2 ^ 62) x) }
+{
+    let sum = sum_at(d, terms_at(d, basis.terms.as_slice(), j), targets, k);
+    exact_quotient(sum, basis.scales[j])
+}
+
+/// The matrix that takes each vertex of the basis to the target at its place, or None where it isn't whole.
+pub fn matrix_taking(d: usize, basis: &Basis, targets: &[Point]) -> Option<Matrix>
+    requires low { 2 ≤ d }
+    requires few { d ≤ 6 }
+    requires basis { IsSomeBasis d basis.now.scales.items basis.now.terms.items }
+    requires count { length targets.now ≡ suc d }
+    requires dimension { AllOfDimension d targets.now }
+    requires first { get_or targets.now 0 [] ≡ zeros d }
+    requires near { AreWithin (limits.span_limit d) targets.now }
+    ensures size { IfSome result (λ u. length u ≡ d * d) }
+    ensures taking { (points : List (List ℤ)) → IsSimplex d points → get_or points 0 [] ≡ zeros d → IsBasis d points basis.now.scales.items basis.now.terms.items → MatchOption result ((w : List (List ℤ)) → IsSquare d w → TakesTo d w points targets.now → ⊥) (λ u. TakesTo d (rows d u) points targets.now) }
+{
+    let mut numbers: ArrayVec<i128, 36> = ArrayVec::new();
+    for k in 0..d {
+        for j in 0..d {
+            match entry(d, basis, targets, k, j) {
+                Some(number) => numbers.push(number),
+                None => return None,
+            }
+        }
+    }
+    Some(Matrix::of(d as u8, numbers.as_slice()))
 }
