@@ -6,3 +6,5 @@ pub mod Quotients
 pub mod Weighed
 pub mod Taking
 pub mod Entries
+pub mod Inverses
+pub mod Tested

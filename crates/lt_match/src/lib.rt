@@ -2,4 +2,7 @@
 #![tactic(auto)]
 
 mod bases;
+mod carrying;
 mod images;
+
+pub use carrying::carries;
