@@ -1,0 +1,2 @@
+//! The atlas: entries, marks, queue and log.
+#![tactic(auto)]
