@@ -1,0 +1,6 @@
+mod Independent
+mod Near
+mod MadeClasses
+mod Regulated
+mod Collected
+mod Wide

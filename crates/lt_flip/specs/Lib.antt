@@ -1,0 +1,3 @@
+pub mod Outers
+pub mod Flipped
+pub mod Regulated
