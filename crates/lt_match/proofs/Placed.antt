@@ -11,6 +11,7 @@ use Rattle.lt_model.specs.Matrices.{apply, IsSquare}
 use Rattle.lt_model.specs.Simplices.{AllOfDimension, IsSimplex, IsClass, IsClassOf, translate}
 use Rattle.lt_model.proofs.Sets.{number_list_cmp_total, each_holds, Contains-head, Contains-tail}
 use Rattle.lt_model.proofs.Squares.{length-scale}
+use Rattle.lt_model.proofs.Dependent.{length-map_vectors}
 use Rattle.lt_model.proofs.Excess.{length-translate}
 use Rattle.lt_model.proofs.Translates.{ascending_translate}
 use Rattle.lt_model.proofs.Moved.{simplex_moved, translate-back}
@@ -19,6 +20,7 @@ use Rattle.lt_geometry.proofs.Sorting.{sorted_is_distinct}
 use Rattle.lt_geometry.proofs.Motions.{IsMapped, mapped, Contains-map, simplex_rearranged}
 use Rattle.lt_geometry.proofs.Matrices.{apply-zeros, map-apply_all}
 use Rattle.lt_geometry.proofs.Classes.{one_class}
+use Rattle.lt_geometry.proofs.Carried.{get-map}
 use Rattle.lt_lattice.specs.Ranges.{IsWithin}
 use Rattle.lt_triang.specs.Bounds.{AreWithin, AreNear}
 use Rattle.lt_triang.specs.Flat.{IsClassAt}
@@ -115,3 +117,10 @@ image_near d u s t h square k g =
 
 pub image_within : (d : ℕ) (u s : List (List ℤ)) (t : List (List (List ℤ))) → IsTriangulation d t → IsSquare d u → IsClass d s → HasClassOf d (map (apply u) s) t → AreWithin (2 ^ 20) (map (apply u) s)
 image_within d u s t h square k g = within_points d (map (apply u) s) (image_near d u s t h square k g)
+
+-- the images of the vertices of a class form a simplex where they have the class of a member, and the first of them is 0
+pub image_simplex : (d : ℕ) (u s : List (List ℤ)) (t : List (List (List ℤ))) → IsSquare d u → IsClass d s → HasClassOf d (map (apply u) s) t → IsSimplex d (map (apply u) s)
+image_simplex d u s t square k (s2, c, h) = points_simplex d (map (apply u) s) s2 (length-map_vectors (apply u) s ∙ k.simplex.count) (map-apply_all d u s square.rows) h
+
+pub image_first : (d : ℕ) (u s : List (List ℤ)) → IsSquare d u → IsClass d s → get_or (map (apply u) s) 0 [] ≡ zeros d
+image_first d u s square k = get-map (apply u) s 0 [] [] (omega (arith, k.simplex.count)) ∙ ap (apply u) k.first ∙ apply-zeros u d ∙ ap zeros square.rows

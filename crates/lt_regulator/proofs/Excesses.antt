@@ -1,8 +1,8 @@
 -- The excess normal, summed vertex by vertex, and how large its numbers are.
-use Rattle.std.proofs.Common.{◌≡◌, ℕ, zero, suc, ℤ, negsuc, neg_ℤ, pos, ◌*ℤ◌, ◌<◌, ◌≤◌, ◌+◌, ◌*◌, ◌^◌, refl, ap, arith, sym, ◌∙◌, subst, List, [], ◌∷◌, length, map, drop, get_or, drop-cons, add-one, nat_abs, mul-le-mul}
+use Rattle.std.proofs.Common.{◌≡◌, ℕ, zero, suc, ℤ, negsuc, neg_ℤ, pos, ◌*ℤ◌, ◌<◌, ◌≤◌, ◌+◌, ◌*◌, ◌^◌, refl, ap, arith, sym, ◌∙◌, subst, List, [], ◌∷◌, length, map, drop, get_or, drop-cons, add-one, nat_abs}
 use Rattle.std.proofs.lemmas.Int.{ints}
 use Rattle.std.proofs.lemmas.List.{drop_all}
-use Rattle.std.specs.List.{All, AllByRecursion}
+use Rattle.std.specs.List.{All}
 use Rattle.lt_model.specs.Vectors.{plus, minus, scale, combine}
 use Rattle.lt_model.specs.Forms.{squares, numbers_of_form}
 use Rattle.lt_model.specs.Walls.{excess_normal}

@@ -1,16 +1,20 @@
--- The regulator at a facet of a member.
-use Rattle.std.specs.Prelude.{ℕ, suc, ℤ, ◌≡◌, ◌<◌, List, [], get_or}
+-- Lists that hold the regulators at facets of members.
+use Rattle.std.specs.Prelude.{ℕ, suc, ℤ, ◌<◌, ◌≡◌, List, [], get_or}
 use Rattle.std.specs.List.{Contains}
-use Rattle.lt_model.specs.Walls.{IsPair, IsRegulator}
+use Rattle.lt_model.specs.Simplices.{IsExpression}
+use Rattle.lt_model.specs.Walls.{excess_normal, IsRegulator}
+use Rattle.lt_geometry.specs.Regulators.{IsRegulatorAt}
+use Rattle.lt_triang.specs.Across.{IsOuterVertex}
 use Rattle.lt_triang.specs.Kept.{dimension_of}
 
--- n is the regulator of the member s and its neighbour at facet i
-pub record IsRegulatorAt (d : ℕ) (t : List (List (List ℤ))) (s : List (List ℤ)) (i : ℕ) (n : List ℤ) : Type 0 where
+-- the numbers of the excess of the outer vertex of the neighbour of s at facet i, by some expression
+pub record IsOuterExcess (d : ℕ) (t : List (List (List ℤ))) (s : List (List ℤ)) (i : ℕ) (numbers : List ℤ) : Type 0 where
   pub vertex : List ℤ
-  pub factor : ℤ
-  pub coefficients : List ℤ
-  pub pair : IsPair d t n s vertex factor coefficients
-  pub facet : pair.facet ≡ i
+  pub c : ℤ
+  pub b : List ℤ
+  pub outer : IsOuterVertex d t s i vertex
+  pub expression : IsExpression s vertex c b
+  pub value : numbers ≡ excess_normal s vertex c b
 
 -- the normals hold a regulator for each facet of the member
 pub record HasRegulatorsOf (t : List (List (List ℤ))) (m facets : ℕ) (ns : List (List ℤ)) : Type 0 where

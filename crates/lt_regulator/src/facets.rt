@@ -1,19 +1,36 @@
 //! The regulator of two members that share a facet, and the list of all.
 
-ghost use Rattle.std.specs.Prelude.{◌≡◌, ◌<◌, ◌≤◌, suc, ℕ, ℤ, List, [], length, get_or, IfOk, ◌↔◌};
-ghost use Rattle.std.specs.List.{Contains};
+ghost use Rattle.std.specs.Prelude.{◌≡◌, ◌<◌, ◌≤◌, ◌^◌, suc, ℕ, ℤ, List, [], length, get_or, IfOk, ◌↔◌};
+ghost use Rattle.std.specs.List.{All, Contains};
 ghost use Rattle.std.specs.List.Sorted.{IsStrictlySortedBy};
 ghost use Rattle.lt_model.specs.Order.{number_list_cmp};
 ghost use Rattle.lt_model.specs.Walls.{AreRegulators};
+ghost use Rattle.lt_lattice.specs.Ranges.{IsBelow};
 ghost use Rattle.lt_triang.specs.Kept.{dimension_of, IsOfSomeForm};
-ghost use Rattle.lt_regulator.specs.Regulated.{IsRegulatorAt, HasRegulatorsBelow};
+ghost use Rattle.lt_geometry.specs.Regulators.{IsRegulatorAt};
+ghost use Rattle.lt_regulator.specs.Regulated.{IsOuterExcess, HasRegulatorsBelow};
 
 use crate::excess::excess_of;
+use arrayvec::ArrayVec;
 use lt_lattice::Normal;
 use lt_model::Memory;
 use lt_num::primitive;
 use lt_triang::Triangulation;
 use std::alloc::Global;
+
+/// The numbers of the excess of the outer vertex at the facet, as a function of the form.
+fn outer_excess(t: &Triangulation, class: usize, facet: usize) -> ArrayVec<i128, 21>
+    requires class { class < length t.now }
+    requires facet { facet < length (get_or t.now class []) }
+    ensures value { IsOuterExcess (dimension_of t.now) t.now (get_or t.now class []) facet result.items }
+    ensures below { All (IsBelow (2 ^ 80)) result.items }
+{
+    let dimension = usize::from(t.dimension());
+    let simplex = t.class(class);
+    let vertex = t.outer_vertex(class, facet);
+    let expression = simplex.expression(&vertex);
+    excess_of(dimension, simplex.vertices(), &vertex, &expression)
+}
 
 /// The regulator of the class at place `class` and its neighbour at facet `facet`: `d (d + 1) / 2` numbers in the order of a
 /// form's numbers, with greatest common divisor 1. It is a positive multiple of the excess of the neighbour's outer vertex over
@@ -26,20 +43,11 @@ pub fn regulator(t: &Triangulation, class: usize, facet: usize) -> Normal
     ensures { IsRegulatorAt (dimension_of t.now) t.now (get_or t.now class []) facet result }
 {
     let dimension = t.dimension();
-    let simplex = t.class(class);
-    let vertex = t.outer_vertex(class, facet);
-    let expression = simplex.expression(&vertex);
-    let mut numbers = excess_of(
-        usize::from(dimension),
-        simplex.vertices(),
-        &vertex,
-        &expression,
-    );
+    let mut numbers = outer_excess(t, class, facet);
     match primitive(numbers.as_mut_slice()) {
-        Ok(_) => {}
+        Ok(_) => Normal::of(dimension, numbers.as_slice()),
         Err(_) => unreachable!(),
     }
-    Normal::of(dimension, numbers.as_slice())
 }
 
 /// Appends the regulators at the facets of the class at place `class`.

@@ -6,6 +6,7 @@ mod pivots;
 mod systems;
 mod tableau;
 mod weights;
+mod words;
 
 pub use error::TableauError;
 pub use tableau::Tableau;

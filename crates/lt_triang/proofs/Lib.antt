@@ -12,3 +12,4 @@ pub mod Gaps
 pub mod Made
 pub mod Distinct
 pub mod Expressed
+pub mod SomeForm

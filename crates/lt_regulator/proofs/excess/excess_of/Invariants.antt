@@ -1,4 +1,3 @@
-use Rattle.std.proofs.Common.{◌≤◌, length}
 use Rattle.lt_regulator.proofs.Excesses.{IsSummed}
 use Rattle.lt_regulator.proofs.excess.excess_of.Given as goal
 

@@ -1,0 +1,9 @@
+pub mod Columns
+pub mod Digits
+pub mod Falls
+pub mod Leaves
+pub mod Loops
+pub mod Signs
+pub mod Walls
+pub mod Combinations
+pub mod Forms

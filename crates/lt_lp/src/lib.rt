@@ -1,0 +1,2 @@
+//! L.
+#![tactic(auto)]
