@@ -10,11 +10,11 @@ use Rattle.lt_model.specs.Simplices.{IsExpression}
 use Rattle.lt_model.specs.Triangulations.{IsDelaunay}
 use Rattle.lt_model.specs.Walls.{IsFacet}
 use Rattle.lt_model.specs.Flips.{IsExchanged, IsFlipOf}
-use Rattle.lt_geometry.specs.Regulators.{outer_vertex, IsRegulatorAt}
+use Rattle.lt_geometry.specs.Regulators.{outer_vertex}
 use Rattle.lt_geometry.specs.Exchanges.{IsMadeFrom}
 use Rattle.lt_geometry.proofs.ExchangeLaws.{taken_out, exchanged_members, made, all_made}
 use Rattle.lt_flip.specs.Outers.{HasNoFacet, IsOuterOf}
-use Rattle.lt_flip.specs.Flipped.{IsFlippedClass, AreFlipped, HasMade, HasFlipped, AreFlippedBelow}
+use Rattle.lt_flip.specs.Flipped.{IsFlippedClass, AreFlipped, HasFlipped, AreFlippedBelow}
 
 -- what is known of the triangulation and the facet
 pub record IsFlippable (d : ℕ) (a : List ℤ) (t : List (List (List ℤ))) (n : List ℤ) : Type 0 where

@@ -1,16 +1,16 @@
 -- A point and the vertices of a simplex but one, whose number in an expression of the point isn't 0, are independent.
-use Rattle.std.proofs.Common.{◌≡◌, ◌≢◌, ℕ, zero, suc, ℤ, pos, negsuc, ◌+ℤ◌, ◌*ℤ◌, ◌<◌, refl, ap, ap₂, arith, sym, ◌∙◌, subst, List, [], ◌∷◌, length, map}
+use Rattle.std.proofs.Common.{◌≡◌, ◌≢◌, ℕ, zero, suc, ℤ, pos, ◌+ℤ◌, ◌*ℤ◌, ◌<◌, refl, ap, ap₂, arith, sym, ◌∙◌, List, [], ◌∷◌, length, map}
 use Rattle.std.proofs.lemmas.Int.{ints}
-use Rattle.lt_model.proofs.Ring.{ring, ring_by_two, var, num, ◌⊕◌, ◌⊖◌, ◌⊗◌}
+use Rattle.lt_model.proofs.Ring.{ring, var, num, ◌⊕◌, ◌⊗◌}
 use Rattle.lt_model.proofs.Inequalities.{cancel_nonzero_z}
 use Rattle.lt_model.proofs.Squares.{length-scale, length-plus}
-use Rattle.lt_model.proofs.Vectors.{dot-plus, dot-scale, dot_comm}
+use Rattle.lt_model.proofs.Vectors.{dot-scale, dot_comm}
 use Rattle.lt_model.proofs.Excess.{dot-combine, dot-constant, same_from_dots, plus-dot, scale-dot}
 use Rattle.lt_model.proofs.Walk.{dot-without, without-map, number_at-plus, number_at-scale, without-with_at, number_at-with_at, length-with_at, length-without, length-combine, length-map}
 use Rattle.lt_model.proofs.Opposite.{length-zeros, zeros-dot}
 use Rattle.lt_model.proofs.Expressions.{number_at-zeros, total-plus, total-scale}
-use Rattle.lt_model.specs.Vectors.{plus, scale, dot, total, combine, zeros, IsPrimitive}
-use Rattle.lt_model.specs.Simplices.{AllOfDimension, AreIndependent, IsSimplex, IsExpression}
+use Rattle.lt_model.specs.Vectors.{plus, scale, dot, total, combine, zeros}
+use Rattle.lt_model.specs.Simplices.{AreIndependent, IsSimplex, IsExpression}
 use Rattle.lt_model.specs.Facets.{without, with_at, number_at}
 use Rattle.lt_triang.specs.Flat.{IsFlat, leading}
 use Rattle.lt_triang.proofs.Signs.{leading_primitive}

@@ -1,6 +1,5 @@
 mod Independent
 mod Near
 mod MadeClasses
-mod Regulated
 mod Collected
 mod Wide

@@ -54,16 +54,16 @@ one_more d s w b all m more x hm p c h r = (to, from)
   where
     to : Contains (more ++ x ∷ []) r → Contains all r ⊎ ((k : ℕ) × (k < m + 1) × IsMadeFrom d s w b k r)
     to i = elim (Contains-push_cases more x r i) [
-        | inl j ↦ elim ((h r).0 j) [ inl y ↦ inl y | inr (k, l, y) ↦ inr (k, omega (arith, l), y) ]
-        | inr e ↦ inr (m, omega arith, record { place = hm; positive = p; class_of = subst (λ (z : List (List ℤ)). IsClassOf d (without (suc m) (w ∷ s)) z) e c })
-      ]
+      | inl j ↦ elim ((h r).0 j) [ inl y ↦ inl y | inr (k, l, y) ↦ inr (k, omega (arith, l), y) ]
+      | inr e ↦ inr (m, omega arith, record { place = hm; positive = p; class_of = subst (λ (z : List (List ℤ)). IsClassOf d (without (suc m) (w ∷ s)) z) e c })
+    ]
 
     from : Contains all r ⊎ ((k : ℕ) × (k < m + 1) × IsMadeFrom d s w b k r) → Contains (more ++ x ∷ []) r
     from (inl y) = Contains-append_left more (x ∷ []) r ((h r).1 (inl y))
     from (inr (k, l, y)) = elim (below_or_at k m l) [
-        | inl q ↦ Contains-append_left more (x ∷ []) r ((h r).1 (inr (k, q, y)))
-        | inr e ↦ subst (λ (z : List (List ℤ)). Contains (more ++ x ∷ []) z) (one_class d (without (suc m) (w ∷ s)) x r c (subst (λ (n : ℕ). IsClassOf d (without (suc n) (w ∷ s)) r) e y.class_of)) (Contains-push more x)
-      ]
+      | inl q ↦ Contains-append_left more (x ∷ []) r ((h r).1 (inr (k, q, y)))
+      | inr e ↦ subst (λ (z : List (List ℤ)). Contains (more ++ x ∷ []) z) (one_class d (without (suc m) (w ∷ s)) x r c (subst (λ (n : ℕ). IsClassOf d (without (suc n) (w ∷ s)) r) e y.class_of)) (Contains-push more x)
+    ]
 
 pub none_more : (d : ℕ) (s : List (List ℤ)) (w b : List ℤ) (all : List (List (List ℤ))) (m : ℕ) (more : List (List (List ℤ))) → (pos 0 <ℤ number_at m b → ⊥) → HasMadeBelow d s w b all m more → HasMadeBelow d s w b all (m + 1) more
 none_more d s w b all m more n h r = (

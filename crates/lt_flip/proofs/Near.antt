@@ -1,10 +1,10 @@
 -- The outer vertex of a neighbour lies near all vertices of the member.
-use Rattle.std.proofs.Common.{◌≡◌, ℕ, suc, ℤ, pos, negsuc, ◌+◌, ◌*◌, ◌<◌, ◌≤◌, ap, ap₂, arith, sym, ◌∙◌, subst, List, [], ◌∷◌, length, get_or, ◌⊎◌, inl, inr, ◌+ℤ◌, ◌*ℤ◌}
+use Rattle.std.proofs.Common.{◌≡◌, ℕ, suc, ℤ, negsuc, ◌+◌, ◌*◌, ◌<◌, ap, ap₂, arith, sym, ◌∙◌, subst, List, [], ◌∷◌, length, get_or, ◌⊎◌, inl, inr, ◌+ℤ◌, ◌*ℤ◌}
 use Rattle.std.proofs.lemmas.Int.{ints}
 use Rattle.std.specs.List.{All, Contains}
 use Rattle.std.proofs.lemmas.List.Elements.{Contains-get_or}
 use Rattle.lt_model.proofs.Sets.{Contains-head, Contains-tail, Contains-cases, Contains-none, each_holds}
-use Rattle.lt_model.proofs.Squares.{length-scale, length-plus}
+use Rattle.lt_model.proofs.Squares.{length-plus}
 use Rattle.lt_model.proofs.Vectors.{dot-plus, dot-scale}
 use Rattle.lt_model.proofs.Excess.{same_from_dots, length-translate}
 use Rattle.lt_model.proofs.Moved.{translate_all}
@@ -18,9 +18,8 @@ use Rattle.lt_triang.specs.Bounds.{AreNear}
 use Rattle.lt_triang.specs.Kept.{IsTriangulation}
 use Rattle.lt_triang.proofs.Gaps.{member_near, double_limit, length-minus}
 use Rattle.lt_triang.proofs.Least.{minus-plus}
-use Rattle.lt_triang.proofs.Shifts.{within_plus, within_more, count_without, contains_without, all_without}
+use Rattle.lt_triang.proofs.Shifts.{within_plus, within_more, count_without, contains_without}
 use Rattle.lt_triang.proofs.Made.{classes_of}
-use Rattle.lt_triang.proofs.Steps.{get_dimension}
 
 minus_split : (d : ℕ) (x u y : List ℤ) → length x ≡ d → length u ≡ d → length y ≡ d → plus (minus x u) (minus u y) ≡ minus x y
 minus_split d x u y lx lu ly =

@@ -1,5 +1,5 @@
 -- The flip is a triangulation where no span is above the limit.
-use Rattle.std.proofs.Common.{◌≡◌, ℕ, suc, ℤ, pos, ◌<◌, ◌≤◌, ◌-◌, arith, ap, sym, ◌∙◌, subst, List, [], length, get_or, ◌↔◌}
+use Rattle.std.proofs.Common.{◌≡◌, ℕ, ℤ, pos, ◌<◌, ◌≤◌, arith, ap, sym, ◌∙◌, subst, List, [], length, get_or, ◌↔◌}
 use Rattle.std.specs.List.{Contains}
 use Rattle.std.specs.List.Sorted.{IsStrictlySortedBy}
 use Rattle.std.proofs.lemmas.List.{get_or_default}

@@ -1,3 +1,2 @@
 pub mod Outers
 pub mod Flipped
-pub mod Regulated

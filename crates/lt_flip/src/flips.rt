@@ -61,13 +61,7 @@ fn push_flipped(
     let d = usize::from(t.dimension());
     let simplex = t.class(class);
     match outer_of(t, class, facet) {
-        Some(outer) => push_exchanged(
-            all,
-            d,
-            simplex.vertices(),
-            &outer.vertex,
-            &outer.expression,
-        ),
+        Some(outer) => push_exchanged(all, d, simplex.vertices(), &outer.vertex, &outer.expression),
         None => match all.push(simplex.copy()) {
             Ok(()) => Ok(()),
             Err(_) => Err(Memory),

@@ -5,21 +5,11 @@ ghost use Rattle.lt_model.specs.Limits.{span_limit};
 ghost use Rattle.lt_triang.specs.Bounds.{AreNear};
 ghost use Rattle.lt_triang.specs.Kept.{dimension_of, IsOfSomeForm};
 ghost use Rattle.lt_geometry.specs.Regulators.{IsRegulatorAt};
-ghost use Rattle.lt_flip.specs.Regulated as given;
 ghost use Rattle.lt_flip.specs.Outers.{HasNoFacet, IsOuterOf};
 
 use lt_lattice::{Normal, Point};
+use lt_regulator::regulator;
 use lt_triang::{Expression, Triangulation};
-
-/// STUB
-pub fn regulator(t: &Triangulation, class: usize, facet: usize) -> Normal
-    requires delaunay { IsOfSomeForm t.now }
-    requires class { class < length t.now }
-    requires facet { facet < length (get_or t.now class []) }
-    ensures { given.IsRegulatorAt (dimension_of t.now) t.now (get_or t.now class []) facet result }
-{
-    unreachable!()
-}
 
 /// A vertex beyond a facet of a class, and its expression over the class.
 #[derive(Drop)]

@@ -1,6 +1,6 @@
-use Rattle.std.proofs.Common.{◌≡◌, ◌∷◌, ◌∙◌, sym, subst, arith, suc, length, ◌-◌}
+use Rattle.std.proofs.Common.{◌∷◌, ◌∙◌, arith, suc}
 use Rattle.lt_model.specs.Facets.{without}
-use Rattle.lt_flip.proofs.MadeClasses.{HasClass, exchanged_points, never_flat, class_there}
+use Rattle.lt_flip.proofs.MadeClasses.{exchanged_points, never_flat, class_there}
 use Rattle.lt_flip.proofs.exchanges.exchanged_class.Goals as goal
 
 pub of-requires-clause-low : goal.of-requires-clause-low

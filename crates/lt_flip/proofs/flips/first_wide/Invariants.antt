@@ -1,4 +1,4 @@
-use Rattle.std.proofs.Common.{◌≡◌, ℕ, pos, ◌<◌, ◌≤◌, [], get_or}
+use Rattle.std.proofs.Common.{ℕ, ◌<◌, ◌≤◌, [], get_or}
 use Rattle.lt_model.specs.Limits.{span_limit, class_span}
 use Rattle.lt_flip.proofs.flips.first_wide.Given as goal
 

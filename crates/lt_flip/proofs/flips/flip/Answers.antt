@@ -1,4 +1,4 @@
-use Rattle.std.proofs.Common.{◌≡◌, ◌≤◌, sym, ◌∙◌, ap, subst, arith, length, get_or, [], List, ℤ, pos}
+use Rattle.std.proofs.Common.{◌≡◌, ◌≤◌, sym, ◌∙◌, ap, subst, arith, pos}
 use Rattle.lt_model.specs.Limits.{span, span_limit, class_span}
 use Rattle.lt_model.specs.Walls.{IsAcross}
 use Rattle.lt_model.specs.Flips.{IsFlipOf}
@@ -50,10 +50,10 @@ returns-in-Some-clause-wide c =
     let h : IsSortedFlip (dimension_of t) t c.args.facet.now classes = sorted_flip (dimension_of t) c.requires.delaunay.0 t c.args.facet.now c.in_ok-flipped.field-0.items classes k c.in_ok-flipped.ensures c.sorted_distinct-classes.ensures.ascending c.sorted_distinct-classes.ensures.members in
     let found = c.index.result.now in
     λ class wide e.
-        let f = c.wide.ensures in
-        let s_is : class ≡ found = cc in
-        let c_is : wide ≡ pos (class_span found) = cc in
-        wide_flip (dimension_of t) t c.args.facet.now classes c.as_slice.result.now c.dimension-d.result c.in-Some.i found class wide h c.as_slice.ensures.value d c.in-Some.ensures c.index.ensures s_is c_is
+    let f = c.wide.ensures in
+    let s_is : class ≡ found = cc in
+    let c_is : wide ≡ pos (class_span found) = cc in
+    wide_flip (dimension_of t) t c.args.facet.now classes c.as_slice.result.now c.dimension-d.result c.in-Some.i found class wide h c.as_slice.ensures.value d c.in-Some.ensures c.index.ensures s_is c_is
 
 pub returns-in_ok-across-in-None-clause-flip : goal.returns-in_ok-across-in-None-clause-flip
 returns-in_ok-across-in-None-clause-flip c =

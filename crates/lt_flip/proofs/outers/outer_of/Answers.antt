@@ -1,4 +1,4 @@
-use Rattle.std.proofs.Common.{◌≡◌, ℕ, suc, ◌<◌, ap, sym, ◌∙◌, subst, arith, [], get_or, length}
+use Rattle.std.proofs.Common.{◌≡◌, suc, ap, sym, ◌∙◌, subst, [], get_or, length}
 use Rattle.std.specs.List.{Contains}
 use Rattle.std.proofs.lemmas.List.Elements.{Contains-get_or}
 use Rattle.lt_model.specs.Simplices.{IsClass, IsExpression}
