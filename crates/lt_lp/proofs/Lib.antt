@@ -7,3 +7,5 @@ pub mod Signs
 pub mod Walls
 pub mod Combinations
 pub mod Forms
+pub mod Readies
+pub mod Reduces

@@ -1,1 +1,3 @@
 pub mod Rule
+pub mod Verdicts
+pub mod Reduced
