@@ -4,6 +4,12 @@ pub mod Falls
 pub mod Leaves
 pub mod Loops
 pub mod Signs
-pub mod Walls
-pub mod Combinations
+pub mod WallSigns
+pub mod Values
 pub mod Forms
+pub mod Readies
+pub mod Reduces
+pub mod Turned
+pub mod Terms
+pub mod Mixes
+pub mod Combined

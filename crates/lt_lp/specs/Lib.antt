@@ -1,1 +1,4 @@
 pub mod Rule
+pub mod Verdicts
+pub mod Reduced
+pub mod Terms
