@@ -4,5 +4,6 @@
 mod bases;
 mod carrying;
 mod images;
+mod matching;
 
 pub use carrying::carries;

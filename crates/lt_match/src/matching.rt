@@ -1,0 +1,66 @@
+//! The first matrix that carries one triangulation onto another.
+
+ghost use Rattle.std.specs.Prelude.{◌≡◌, ◌<◌, ◌≤◌, ◌*◌, ◌++◌, ◌∷◌, suc, ℕ, ℤ, List, [], length, get_or, IsTrue, IfOk, MatchOption, ◌↔◌};
+ghost use Rattle.std.specs.List.{Contains, All};
+ghost use Rattle.lt_model.specs.Flat.{rows};
+ghost use Rattle.lt_model.specs.Limits.{span_limit};
+ghost use Rattle.lt_model.specs.Matrices.{Carries, AreEquivalent};
+ghost use Rattle.lt_model.specs.Principal.{IsOrder};
+ghost use Rattle.lt_model.specs.Simplices.{IsClass};
+ghost use Rattle.lt_model.specs.Triangulations.{IsDelaunay};
+ghost use Rattle.lt_geometry.specs.Carrying.{IsCandidate};
+ghost use Rattle.lt_geometry.proofs.Rearranged.{IsDistinct};
+ghost use Rattle.lt_triang.specs.Bounds.{AreNear};
+ghost use Rattle.lt_triang.specs.Kept.{IsTriangulation};
+ghost use Rattle.lt_match.specs.Images.{dimension_of};
+ghost use Rattle.lt_match.specs.Bases.{IsBasis};
+ghost use Rattle.lt_match.specs.Matches.{in_order, BeginsWith, HasNoMatch, IsMatch, IsFirstOrder, IsFirstMatch, ArePlaces};
+
+use crate::bases::{Basis, basis_of, matrix_taking};
+use crate::carrying::{all_go, comes_back};
+use arrayvec::ArrayVec;
+use lt_lattice::{Matrix, Point};
+use lt_model::Memory;
+use lt_triang::Triangulation;
+
+/// The vertices in the order, less the first in that order.
+fn targets(d: usize, s: &[Point], order: &[usize]) -> ArrayVec<Point, 7>
+    requires few { d ≤ 6 }
+    requires class { IsClass d s.now }
+    requires near { AreNear (span_limit d) s.now }
+    requires order { IsOrder (suc d) order.now }
+    ensures { result.items ≡ in_order s.now order.now }
+{
+    let mut all: ArrayVec<Point, 7> = ArrayVec::new();
+    for k in order {
+        match s[*k].minus(&s[order[0]]) {
+            Some(target) => all.push(target),
+            None => unreachable!(),
+        }
+    }
+    all
+}
+
+/// The candidate of an order of the vertices of a member of `to`, where it carries.
+fn attempt(d: usize, basis: &Basis, from: &Triangulation, to: &Triangulation, s: &[Point], order: &[usize]) -> Option<Matrix>
+    requires origin { IsTriangulation d from.now }
+    requires target { IsTriangulation d to.now }
+    requires count { length from.now ≡ length to.now }
+    requires basis { IsBasis d (get_or from.now 0 []) basis.now.scales.items basis.now.terms.items }
+    requires member { Contains to.now s.now }
+    requires order { IsOrder (suc d) order.now }
+    ensures { MatchOption result (HasNoMatch d from.now to.now s.now order.now) (λ u. (length u ≡ d * d) × IsMatch d from.now to.now s.now order.now (rows d u)) }
+{
+    let targets = targets(d, s, order);
+    let u = match matrix_taking(d, basis, targets.as_slice()) {
+        Some(u) => u,
+        None => return None,
+    };
+    if !all_go(d, &u, from, 1, to) {
+        return None;
+    }
+    if !comes_back(d, from.class(0).vertices(), targets.as_slice()) {
+        return None;
+    }
+    Some(u)
+}
