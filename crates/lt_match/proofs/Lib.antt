@@ -10,3 +10,4 @@ pub mod Inverses
 pub mod Tested
 pub mod Orders
 pub mod Attempts
+pub mod Beginnings

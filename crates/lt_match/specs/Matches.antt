@@ -1,5 +1,5 @@
 -- Candidate matrices in their order: first by the member of the second triangulation, then by the order of its vertices.
-use Rattle.std.specs.Prelude.{ℕ, suc, ℤ, ◌<◌, ◌≡◌, ◌⊎◌, List, [], map, length, get_or}
+use Rattle.std.specs.Prelude.{ℕ, suc, ℤ, ◌<◌, ◌≤◌, ◌≡◌, ◌≢◌, ◌⊎◌, List, [], map, length, get_or}
 use Rattle.std.specs.List.{Contains}
 use Rattle.lt_model.specs.Vectors.{minus}
 use Rattle.lt_model.specs.Matrices.{Carries}
@@ -47,3 +47,9 @@ pub record ArePlaces (d : ℕ) (t t2 : List (List (List ℤ))) (places : List �
   pub within : (i : ℕ) → i < length places → get_or places i 0 < length t2
   pub ascending : (i j : ℕ) → i < j → j < length places → get_or places i 0 < get_or places j 0
   pub all : (n : ℕ) → n < length t2 → Contains places n ⊎ ((q : List ℕ) → HasNoMatch d t t2 (get_or t2 n []) q)
+
+-- different numbers below n
+pub record IsBeginning (n : ℕ) (chosen : List ℕ) : Type 0 where
+  pub few : length chosen ≤ n
+  pub below : (i : ℕ) → i < length chosen → get_or chosen i 0 < n
+  pub distinct : (i j : ℕ) → i < j → j < length chosen → get_or chosen i 0 ≢ get_or chosen j 0

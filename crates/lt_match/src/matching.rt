@@ -14,7 +14,7 @@ ghost use Rattle.lt_triang.specs.Bounds.{AreNear};
 ghost use Rattle.lt_triang.specs.Kept.{IsTriangulation};
 ghost use Rattle.lt_match.specs.Images.{dimension_of};
 ghost use Rattle.lt_match.specs.Bases.{IsBasis};
-ghost use Rattle.lt_match.specs.Matches.{in_order, BeginsWith, HasNoMatch, IsMatch, IsFirstOrder, IsFirstMatch, ArePlaces};
+ghost use Rattle.lt_match.specs.Matches.{in_order, BeginsWith, HasNoMatch, IsMatch, IsFirstOrder, IsFirstMatch, ArePlaces, IsBeginning};
 
 use crate::bases::{Basis, basis_of, matrix_taking};
 use crate::carrying::{all_go, comes_back};
@@ -63,4 +63,55 @@ fn attempt(d: usize, basis: &Basis, from: &Triangulation, to: &Triangulation, s:
         return None;
     }
     Some(u)
+}
+
+/// Whether the number stands among the others.
+fn stands_among(chosen: &[usize], k: usize) -> bool
+    ensures { IsTrue result ↔ Contains chosen.now k }
+{
+    for other in chosen {
+        if *other == k {
+            return true;
+        }
+    }
+    false
+}
+
+/// The numbers with one more after them.
+fn with_last(chosen: &[usize], k: usize) -> ArrayVec<usize, 7>
+    requires { length chosen.now < 7 }
+    ensures { result.items ≡ chosen.now ++ k ∷ [] }
+{
+    let mut all: ArrayVec<usize, 7> = ArrayVec::new();
+    for other in chosen {
+        all.push(*other);
+    }
+    all.push(k);
+    all
+}
+
+/// The match of the first order that begins with the numbers and has one, where orders are compared number by number. The orders are
+/// gone through in place: a list of each would take memory for every candidate.
+fn search(d: usize, basis: &Basis, from: &Triangulation, to: &Triangulation, s: &[Point], chosen: &[usize]) -> Option<Matrix>
+    requires origin { IsTriangulation d from.now }
+    requires target { IsTriangulation d to.now }
+    requires count { length from.now ≡ length to.now }
+    requires basis { IsBasis d (get_or from.now 0 []) basis.now.scales.items basis.now.terms.items }
+    requires member { Contains to.now s.now }
+    requires chosen { IsBeginning (suc d) chosen.now }
+    ensures { MatchOption result ((p : List ℕ) → BeginsWith chosen.now p → HasNoMatch d from.now to.now s.now p) (λ u. (length u ≡ d * d) × IsFirstOrder d from.now to.now s.now chosen.now (rows d u)) }
+{
+    if chosen.len() > d {
+        return attempt(d, basis, from, to, s, chosen);
+    }
+    for k in 0..d + 1 {
+        if !stands_among(chosen, k) {
+            let longer = with_last(chosen, k);
+            match search(d, basis, from, to, s, longer.as_slice()) {
+                Some(u) => return Some(u),
+                None => {}
+            }
+        }
+    }
+    None
 }
