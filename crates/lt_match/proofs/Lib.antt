@@ -11,3 +11,4 @@ pub mod Tested
 pub mod Orders
 pub mod Attempts
 pub mod Beginnings
+pub mod Firsts

@@ -7,3 +7,4 @@ mod images;
 mod matching;
 
 pub use carrying::carries;
+pub use matching::match_types;

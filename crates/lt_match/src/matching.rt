@@ -1,6 +1,6 @@
 //! The first matrix that carries one triangulation onto another.
 
-ghost use Rattle.std.specs.Prelude.{◌≡◌, ◌<◌, ◌≤◌, ◌*◌, ◌++◌, ◌∷◌, suc, ℕ, ℤ, List, [], length, get_or, IsTrue, IfOk, MatchOption, ◌↔◌};
+ghost use Rattle.std.specs.Prelude.{◌≡◌, ◌<◌, ◌≤◌, ◌*◌, ◌++◌, ◌∷◌, suc, ℕ, ℤ, List, [], length, get_or, IsTrue, IfOk, IfSome, MatchOption, ◌↔◌};
 ghost use Rattle.std.specs.List.{Contains, All};
 ghost use Rattle.lt_model.specs.Flat.{rows};
 ghost use Rattle.lt_model.specs.Limits.{span_limit};
@@ -22,6 +22,7 @@ use arrayvec::ArrayVec;
 use lt_lattice::{Matrix, Point};
 use lt_model::Memory;
 use lt_triang::Triangulation;
+use std::alloc::Global;
 
 /// The vertices in the order, less the first in that order.
 fn targets(d: usize, s: &[Point], order: &[usize]) -> ArrayVec<Point, 7>
@@ -114,4 +115,55 @@ fn search(d: usize, basis: &Basis, from: &Triangulation, to: &Triangulation, s: 
         }
     }
     None
+}
+
+/// The places of the members of `to` that may have a match, in ascending order.
+fn candidate_places(alloc: Global, d: usize, from: &Triangulation, to: &Triangulation) -> Result<Vec<usize>, Memory>
+    ensures { IfOk result (λ places. ArePlaces d from.now to.now places.items) }
+{
+    let mut places = Vec::new(alloc);
+    for n in 0..to.len() {
+        match places.push(n) {
+            Ok(()) => {}
+            Err(_) => return Err(Memory),
+        }
+    }
+    Ok(places)
+}
+
+/// The first match, where members are gone through by the places.
+fn first_match(d: usize, from: &Triangulation, to: &Triangulation, places: &[usize]) -> Option<Matrix>
+    requires origin { IsTriangulation d from.now }
+    requires target { IsTriangulation d to.now }
+    requires count { length from.now ≡ length to.now }
+    requires places { ArePlaces d from.now to.now places.now }
+    ensures { MatchOption result ((n : ℕ) → n < length to.now → (q : List ℕ) → HasNoMatch d from.now to.now (get_or to.now n []) q) (λ u. (length u ≡ d * d) × IsFirstMatch d from.now to.now (rows d u)) }
+{
+    let basis = basis_of(d, from.class(0).vertices());
+    for n in places {
+        match search(d, &basis, from, to, to.class(*n).vertices(), &[]) {
+            Some(u) => return Some(u),
+            None => {}
+        }
+    }
+    None
+}
+
+/// The first matrix that carries `from` onto `to`, or None where none does. The matrices are ordered by the member of `to` to which the
+/// first class of `from` goes, and then by the order in which its vertices go to that member's, lexicographically. Both triangulations
+/// are Delaunay triangulations of some form. Memory where memory was refused.
+pub fn match_types(alloc: Global, from: &Triangulation, to: &Triangulation) -> Result<Option<Matrix>, Memory>
+    requires same { dimension_of to.now ≡ dimension_of from.now }
+    requires delaunay { (q : List ℤ) × IsDelaunay (dimension_of from.now) q from.now }
+    requires delaunay_too { (q : List ℤ) × IsDelaunay (dimension_of from.now) q to.now }
+    ensures size { IfOk result (λ r. IfSome r (λ u. length u ≡ dimension_of from.now * dimension_of from.now)) }
+    ensures first { IfOk result (λ r. MatchOption r (AreEquivalent (dimension_of from.now) from.now to.now → ⊥) (λ u. IsFirstMatch (dimension_of from.now) from.now to.now (rows (dimension_of from.now) u))) }
+{
+    let d = from.dimension() as usize;
+    let _same = to.dimension();
+    if from.len() != to.len() {
+        return Ok(None);
+    }
+    let places = candidate_places(alloc, d, from, to)?;
+    Ok(first_match(d, from, to, places.as_slice()))
 }
