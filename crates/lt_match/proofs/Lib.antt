@@ -8,3 +8,7 @@ pub mod Taking
 pub mod Entries
 pub mod Inverses
 pub mod Tested
+pub mod Orders
+pub mod Attempts
+pub mod Beginnings
+pub mod Firsts

@@ -4,5 +4,7 @@
 mod bases;
 mod carrying;
 mod images;
+mod matching;
 
 pub use carrying::carries;
+pub use matching::match_types;
