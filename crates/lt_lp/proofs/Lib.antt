@@ -13,3 +13,4 @@ pub mod Turned
 pub mod Terms
 pub mod Mixes
 pub mod Combined
+pub mod TermLoops
