@@ -14,3 +14,4 @@ pub mod Terms
 pub mod Mixes
 pub mod Combined
 pub mod TermLoops
+pub mod Decided

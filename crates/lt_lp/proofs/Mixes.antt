@@ -50,7 +50,7 @@ nat_eq_other a b h = pick (nat_eq a b) refl
     pick false e = e
     pick true e = let n : a ≡ b = grind (arith, nat_tests) in absurd (h (sym n))
 
-sum_nonneg : (m : ℕ) (f : ℕ → ℤ) → ((q : ℕ) → q < m → pos 0 ≤ℤ f q) → pos 0 ≤ℤ sum_below m f
+pub sum_nonneg : (m : ℕ) (f : ℕ → ℤ) → ((q : ℕ) → q < m → pos 0 ≤ℤ f q) → pos 0 ≤ℤ sum_below m f
 sum_nonneg zero f h = omega (arith, ints)
 sum_nonneg (suc m) f h =
     let a = h 0 (omega arith) in
