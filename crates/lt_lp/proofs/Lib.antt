@@ -13,3 +13,5 @@ pub mod Turned
 pub mod Terms
 pub mod Mixes
 pub mod Combined
+pub mod TermLoops
+pub mod Decided

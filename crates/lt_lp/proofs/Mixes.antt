@@ -18,9 +18,19 @@ use Rattle.lt_tableau.proofs.Sums.{sum_more, sum_same, sum_zero, sum_own, lookup
 use Rattle.lt_tableau.proofs.Starts.{length-system, removed_length}
 use Rattle.lt_lp.specs.Rule.{objective_of, IsReady}
 use Rattle.lt_lp.specs.Terms.{value_of}
+use Rattle.lt_lp.proofs.Falls.{sum_small}
 use Rattle.lt_lp.proofs.Columns.{sum_below_swap, sum_below_scale, filled_in}
 use Rattle.lt_lp.proofs.Values.{value_law, values_not_negative, unit_values}
 use Rattle.lt_lp.proofs.WallSigns.{system_right, append_zero, at_normals}
+
+pub value_small : (t : Table) → IsTableau t → (c : ℕ) → nat_abs (value_of t c) ≤ 22 * 2 ^ 56
+value_small t w c = at_most t.rows (sum_small t.rows (2 ^ 56) (λ (row : ℕ). cond (nat_eq (basic_of t row) c) (right_of t row) (pos 0)) (λ q. pick (nat_eq (basic_of t q) c) (right_of t q) (w.small q (count_of t)))) w.few_rows
+  where
+    at_most : (n : ℕ) {x : ℕ} → x ≤ n * 2 ^ 56 → n ≤ 22 → x ≤ 22 * 2 ^ 56
+    at_most n h l = omega arith
+    pick : (b : Bool) (x : ℤ) → nat_abs x < 2 ^ 56 → nat_abs (cond b x (pos 0)) ≤ 2 ^ 56
+    pick true x h = omega arith
+    pick false x h = omega arith
 
 -- 1 where the row's basic column is the column
 abbrev pub occurs_of : Table → ℕ → ℤ
@@ -40,7 +50,7 @@ nat_eq_other a b h = pick (nat_eq a b) refl
     pick false e = e
     pick true e = let n : a ≡ b = grind (arith, nat_tests) in absurd (h (sym n))
 
-sum_nonneg : (m : ℕ) (f : ℕ → ℤ) → ((q : ℕ) → q < m → pos 0 ≤ℤ f q) → pos 0 ≤ℤ sum_below m f
+pub sum_nonneg : (m : ℕ) (f : ℕ → ℤ) → ((q : ℕ) → q < m → pos 0 ≤ℤ f q) → pos 0 ≤ℤ sum_below m f
 sum_nonneg zero f h = omega (arith, ints)
 sum_nonneg (suc m) f h =
     let a = h 0 (omega arith) in

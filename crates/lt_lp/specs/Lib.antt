@@ -2,3 +2,4 @@ pub mod Rule
 pub mod Verdicts
 pub mod Reduced
 pub mod Terms
+pub mod Positive

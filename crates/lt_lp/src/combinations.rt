@@ -28,7 +28,7 @@ fn value(t: &Tableau, column: usize) -> i128
 
 /// The place of the column among all normals.
 fn place(k: usize, column: usize) -> usize
-    requires { column < 2 ^ 63 }
+    requires { suc column < 2 ^ 64 }
     ensures { result ≡ place_of k column }
 {
     if column < k { column } else { column + 1 }
@@ -36,8 +36,7 @@ fn place(k: usize, column: usize) -> usize
 
 /// The terms of the columns with a value.
 fn terms(t: &Tableau, k: usize, columns: usize) -> ArrayVec<(usize, i128), 21>
-    requires inside { columns < 2 ^ 63 }
-    requires few { length (terms_from k (value_of t.now) 0 columns) ≤ 21 }
+    requires { length (terms_from k (value_of t.now) 0 columns) ≤ 21 }
     ensures { result.items ≡ terms_from k (value_of t.now) 0 columns }
 {
     let mut all: ArrayVec<(usize, i128), 21> = ArrayVec::new();
@@ -84,6 +83,7 @@ pub fn combination(t: &Tableau, k: usize) -> Verdict
     requires positive { pos 0 <ℤ scale_of t.now }
     ensures { IsCombinationOf k t.now (verdict_of result) }
 {
+    let _ = t.rows();
     let first = first_unit(t);
     let scale = value(t, first - 2) - value(t, first - 1);
     let raw = terms(t, k, first - 2);

@@ -2,10 +2,12 @@
 #![tactic(auto)]
 
 mod combinations;
+mod deciding;
 mod primitives;
 mod rule;
 mod sums;
 mod verdicts;
 mod walls;
 
+pub use deciding::decide;
 pub use verdicts::{Cone, LpError, Row, Verdict};
