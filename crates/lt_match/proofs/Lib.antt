@@ -12,3 +12,4 @@ pub mod Orders
 pub mod Attempts
 pub mod Beginnings
 pub mod Firsts
+pub mod Spans

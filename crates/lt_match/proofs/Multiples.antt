@@ -34,7 +34,7 @@ rest_independent d (v ∷ vs) low h first =
     let free : AreLinearlyIndependent (translate (scale (negsuc 0) v) vs) = differences_from_independent d v vs (omega (arith, count, low)) count h.points (λ b lb sb nb. h.independent b lb sb nb) in
     subst AreLinearlyIndependent (ap (λ (p : List ℤ). translate (scale (negsuc 0) p) vs) first ∙ kept d vs h.points.1) free
 
-none_leads : (n : ℕ) → leading (zeros n) ≡ pos 0
+pub none_leads : (n : ℕ) → leading (zeros n) ≡ pos 0
 none_leads zero = refl
 none_leads (suc n) = none_leads n
 
