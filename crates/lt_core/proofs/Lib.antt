@@ -8,3 +8,5 @@ pub mod Counting
 pub mod ConeFacets
 pub mod Crossings
 pub mod Reaching
+pub mod Writes
+pub mod Sounds

@@ -2,6 +2,7 @@
 #![tactic(auto)]
 
 mod combinations;
+mod cones;
 mod deciding;
 mod primitives;
 mod rule;

@@ -1,8 +1,5 @@
 //! Verdicts, rows and cones.
 
-ghost use Rattle.std.specs.Prelude.{◌≡◌, ◌<◌, length, get_or};
-ghost use Rattle.lt_lp.specs.Verdicts.{wall_rows};
-
 use arrayvec::ArrayVec;
 use lt_lattice::{Form, Normal};
 use std::marker::Model;
