@@ -15,3 +15,4 @@ pub mod Mixes
 pub mod Combined
 pub mod TermLoops
 pub mod Decided
+pub mod Checked

@@ -3,3 +3,4 @@ pub mod Verdicts
 pub mod Reduced
 pub mod Terms
 pub mod Positive
+pub mod Checks
