@@ -157,10 +157,17 @@ fn is_combination(normals: &[Normal], k: usize, scale: i128, terms: &[(usize, i1
     requires small { All (All (IsBelow (2 ^ 56))) normals.now }
     ensures { (d : ℕ) → AreOfDimension d normals.now → (IsTrue result ↔ IsRightCombination d normals.now k scale terms.now) }
 {
-    are_in_range(scale, terms.len(), normals[k].numbers().len())
-        && are_terms(terms, normals.len(), k)
-        && is_primitive(with_scale(scale, terms).as_slice())
-        && sums_match(normals, k, scale, terms)
+    let _ = normals[k].dimension();
+    if !are_in_range(scale, terms.len(), normals[k].numbers().len()) {
+        return false;
+    }
+    if !are_terms(terms, normals.len(), k) {
+        return false;
+    }
+    if !is_primitive(with_scale(scale, terms).as_slice()) {
+        return false;
+    }
+    sums_match(normals, k, scale, terms)
 }
 
 /// Whether the verdict on the k-th normal is right. The weight of the normals is below 2^112. It takes no memory, and the places
