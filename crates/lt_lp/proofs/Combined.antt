@@ -31,7 +31,7 @@ use Rattle.lt_lp.proofs.Terms.{terms_ascend, terms_within, terms_other, terms_po
 use Rattle.lt_lp.proofs.Mixes.{IsMix, mixed, mix_positive, mix_few, occurs_of, occurs_nonneg, occurs_some, value_nonneg}
 
 -- lists with the same numbers and lengths
-same_lists : (x y : List ℤ) → length x ≡ length y → ((q : ℕ) → q < length y → lookup x q ≡ lookup y q) → x ≡ y
+pub same_lists : (x y : List ℤ) → length x ≡ length y → ((q : ℕ) → q < length y → lookup x q ≡ lookup y q) → x ≡ y
 same_lists [] [] l h = refl
 same_lists [] (b ∷ y) l h = absurd (omega arith)
 same_lists (a ∷ x) [] l h = absurd (omega arith)
@@ -47,7 +47,7 @@ combine-scale g (t ∷ ts) (v ∷ vs) q =
     lookup_plus (scale (g *ℤ t) v) (combine (scale g ts) vs) q
     ∙ rw (lookup_scale (g *ℤ t) v q, combine-scale g ts vs q, lookup_plus (scale t v) (combine ts vs) q, lookup_scale t v q) (ring (g ∷ t ∷ lookup v q ∷ lookup (combine ts vs) q ∷ []) (var 0 ⊗ var 1 ⊗ var 2 ⊕ var 0 ⊗ var 3) (var 0 ⊗ (var 1 ⊗ var 2 ⊕ var 3)) tt)
 
-all_of_dimension : (n : ℕ) (normals : List (List ℤ)) (ps : List ℕ) → ((j : ℕ) → j < length normals → length (column_at normals j) ≡ n) → All (λ i. i < length normals) ps → AllOfDimension n (map (λ i. get_or normals i []) ps)
+pub all_of_dimension : (n : ℕ) (normals : List (List ℤ)) (ps : List ℕ) → ((j : ℕ) → j < length normals → length (column_at normals j) ≡ n) → All (λ i. i < length normals) ps → AllOfDimension n (map (λ i. get_or normals i []) ps)
 all_of_dimension n normals [] s h = tt
 all_of_dimension n normals (p ∷ ps) s h = (s p (All-head (λ i. i < length normals) p ps h), all_of_dimension n normals ps s (All-tail (λ i. i < length normals) p ps h))
 

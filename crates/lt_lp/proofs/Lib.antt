@@ -16,3 +16,4 @@ pub mod Combined
 pub mod TermLoops
 pub mod Decided
 pub mod FacetRows
+pub mod Checked

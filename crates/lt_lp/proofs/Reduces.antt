@@ -21,7 +21,7 @@ each_multiple g (x ∷ m) = (subst (λ (n : ℕ). g ∣ n) (sym (unsigned_abs-mu
 pub primitive_from_gcd : (xs : List ℤ) → IsGcdOf xs 1 → IsPrimitive xs
 primitive_from_gcd xs h g m e = dvd_antisymm (h.greatest g (subst (DividesEach g) (sym e) (each_multiple g m))) (one-dvd g)
 
-map-is-scale : (k : ℤ) (xs : List ℤ) → map (λ z. k *ℤ z) xs ≡ scale k xs
+pub map-is-scale : (k : ℤ) (xs : List ℤ) → map (λ z. k *ℤ z) xs ≡ scale k xs
 map-is-scale k [] = refl
 map-is-scale k (x ∷ xs) = ap (λ (ys : List ℤ). (k *ℤ x) ∷ ys) (map-is-scale k xs)
 
@@ -48,7 +48,7 @@ not_large xs q h l g =
     let d : 2 ^ 127 ≤ nat_abs (lookup xs q) = le_of_dvd (some_size (lookup xs q) h) (divides_at (2 ^ 127) xs q h g.divides) in
     absurd (omega arith)
 
-zero_divides : (n : ℕ) → 0 < n → 0 ∣ n → ⊥
+pub zero_divides : (n : ℕ) → 0 < n → 0 ∣ n → ⊥
 zero_divides n p d = no n p (dvd_antisymm (zero_from d) d)
   where
     zero_from : 0 ∣ n → n ∣ 0

@@ -4,3 +4,4 @@ pub mod Reduced
 pub mod Terms
 pub mod Positive
 pub mod Facets
+pub mod Checks
