@@ -1,8 +1,8 @@
 -- A candidate that carries, and one that doesn't.
-use Rattle.std.proofs.Common.{◌≡◌, ◌<◌, ◌≤◌, ℕ, zero, suc, ℤ, refl, ap, ap₂, arith, sym, ◌∙◌, subst, List, [], ◌∷◌, length, map, get_or}
+use Rattle.std.proofs.Common.{◌≡◌, ◌<◌, ◌≤◌, ℕ, zero, suc, ℤ, refl, ap₂, arith, sym, ◌∙◌, subst, List, [], ◌∷◌, length, map, get_or}
 use Rattle.std.specs.List.{Contains}
 use Rattle.lt_model.specs.Limits.{span_limit}
-use Rattle.lt_model.specs.Matrices.{apply, IsSquare, IsInverse, Carries}
+use Rattle.lt_model.specs.Matrices.{apply, IsSquare, IsInverse}
 use Rattle.lt_model.specs.Principal.{IsOrder}
 use Rattle.lt_model.specs.Simplices.{IsSimplex, IsClass, IsClassOf}
 use Rattle.lt_model.proofs.Dependent.{length-map_vectors}

@@ -9,7 +9,7 @@ use Rattle.lt_model.specs.Vectors.{minus}
 use Rattle.lt_model.specs.Facets.{without}
 use Rattle.lt_model.specs.Flat.{rows}
 use Rattle.lt_model.specs.Principal.{IsOrder}
-use Rattle.lt_model.proofs.Sets.{Contains-tail, Contains-cases}
+use Rattle.lt_model.proofs.Sets.{Contains-tail}
 use Rattle.lt_model.proofs.Walk.{length-without}
 use Rattle.lt_geometry.proofs.Candidates.{below, down_from, down_below, length-down, distinct_down}
 use Rattle.lt_geometry.proofs.Rearranged.{IsDistinct, other_place, no_longer, arranged_from, arranged_members}
@@ -56,9 +56,9 @@ order_distinct n p i j o l h e =
         elim (other_place 0 j at.0 p y at.1 at.2) [
           | inr r ↦ r
           | inl s ↦
-            let here : get_or p j y ≡ y = ap (λ k. get_or p k y) (sym s) ∙ at.2 in
-            let twin : get_or p i y ≡ y = get_or_default p i y 0 (omega (arith, o.count, l, h)) ∙ e ∙ get_or_default p j 0 y (omega (arith, o.count, h)) ∙ here in
-            elim (other_place 0 j i p y (omega (arith, o.count, l, h)) twin) [ inl f ↦ absurd (omega (arith, f, l)) | inr r ↦ r ]
+              let here : get_or p j y ≡ y = ap (λ k. get_or p k y) (sym s) ∙ at.2 in
+              let twin : get_or p i y ≡ y = get_or_default p i y 0 (omega (arith, o.count, l, h)) ∙ e ∙ get_or_default p j 0 y (omega (arith, o.count, h)) ∙ here in
+              elim (other_place 0 j i p y (omega (arith, o.count, l, h)) twin) [ inl f ↦ absurd (omega (arith, f, l)) | inr r ↦ r ]
         ]
 
 -- ---- one number more
@@ -81,10 +81,10 @@ beginning_more n chosen k b l h new = record {
   distinct = λ i j ij hj. elim (cases_lt j (length chosen)) [
     | inl s ↦ λ e. b.distinct i j ij s (sym (get_or_append_left chosen (k ∷ []) 0 i (omega (arith, ij, s))) ∙ e ∙ get_or_append_left chosen (k ∷ []) 0 j s)
     | inr g ↦ λ e.
-      let last : length chosen ≡ j = omega (arith, g, hj, longer chosen k) in
-      let hi : i < length chosen = omega (arith, ij, last) in
-      let same : get_or chosen i 0 ≡ k = sym (get_or_append_left chosen (k ∷ []) 0 i hi) ∙ e ∙ ap (λ m. get_or (chosen ++ k ∷ []) m 0) (sym last) ∙ last_of chosen k in
-      new (subst (λ (y : ℕ). Contains chosen y) same (Contains-get_or chosen i 0 hi))
+        let last : length chosen ≡ j = omega (arith, g, hj, longer chosen k) in
+        let hi : i < length chosen = omega (arith, ij, last) in
+        let same : get_or chosen i 0 ≡ k = sym (get_or_append_left chosen (k ∷ []) 0 i hi) ∙ e ∙ ap (λ m. get_or (chosen ++ k ∷ []) m 0) (sym last) ∙ last_of chosen k in
+        new (subst (λ (y : ℕ). Contains chosen y) same (Contains-get_or chosen i 0 hi))
   ];
 }
 
@@ -146,9 +146,9 @@ module _ (d : ℕ) (t t2 : List (List (List ℤ))) (s : List (List ℤ)) (chosen
             | inr g ↦ elim (cases_lt (length chosen) m) [
               | inl l ↦ f.before q (begins_more chosen q k b (same (length chosen) l ∙ begins_last chosen f.order k f.begins)) (m, h, same, less)
               | inr g' ↦
-                let here : m ≡ length chosen = omega (arith, g, g') in
-                let lesser : get_or q (length chosen) 0 < k = subst (λ (x : ℕ). get_or q (length chosen) 0 < x) (begins_last chosen f.order k f.begins) (subst (λ (i : ℕ). get_or q i 0 < get_or f.order i 0) here less) in
-                none (get_or q (length chosen) 0) lesser q (begins_more chosen q (get_or q (length chosen) 0) b refl)
+                  let here : m ≡ length chosen = omega (arith, g, g') in
+                  let lesser : get_or q (length chosen) 0 < k = subst (λ (x : ℕ). get_or q (length chosen) 0 < x) (begins_last chosen f.order k f.begins) (subst (λ (i : ℕ). get_or q i 0 < get_or f.order i 0) here less) in
+                  none (get_or q (length chosen) 0) lesser q (begins_more chosen q (get_or q (length chosen) 0) b refl)
             ]
           ]
 

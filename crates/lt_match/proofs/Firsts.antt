@@ -1,11 +1,11 @@
 -- The first match of all members, from those of the places.
-use Rattle.std.proofs.Common.{◌≡◌, ◌<◌, ◌≤◌, ◌*◌, ◌⊎◌, ℕ, ℤ, ap, arith, sym, ◌∙◌, subst, List, [], length, get_or, inl, inr}
+use Rattle.std.proofs.Common.{◌≡◌, ◌<◌, ◌*◌, ◌⊎◌, ℕ, ℤ, ap, arith, sym, ◌∙◌, subst, List, [], length, get_or, inl, inr}
 use Rattle.std.specs.Prelude.{Option, Some, None, IfSome, MatchOption}
 use Rattle.std.specs.List.{Contains}
 use Rattle.std.proofs.lemmas.Bool.{cases_lt}
 use Rattle.std.proofs.lemmas.List.{get_or_default}
 use Rattle.lt_model.specs.Flat.{rows}
-use Rattle.lt_model.specs.Matrices.{AreEquivalent, Carries}
+use Rattle.lt_model.specs.Matrices.{AreEquivalent}
 use Rattle.lt_geometry.specs.Carrying.{IsFromAnOrder}
 use Rattle.lt_geometry.proofs.Candidates.{carries_is_candidate}
 use Rattle.lt_triang.specs.Kept.{IsTriangulation}

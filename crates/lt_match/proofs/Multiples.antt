@@ -1,13 +1,12 @@
 -- How a basis is gathered, row by row, and that it exists.
-use Rattle.std.proofs.Common.{◌≡◌, ◌<◌, ◌≤◌, ◌+◌, ◌-◌, ◌*◌, ◌^◌, ℕ, zero, suc, ℤ, pos, negsuc, ◌+ℤ◌, ◌*ℤ◌, refl, ap, arith, sym, ◌∙◌, subst, List, [], ◌∷◌, ◌++◌, length, get_or, drop, take, nat_abs, inl, inr, mul-le-mul}
+use Rattle.std.proofs.Common.{◌≡◌, ◌<◌, ◌≤◌, ◌+◌, ◌-◌, ◌*◌, ◌^◌, ℕ, zero, suc, ℤ, pos, negsuc, ◌*ℤ◌, refl, ap, arith, sym, ◌∙◌, subst, List, [], ◌∷◌, ◌++◌, length, get_or, drop, take, nat_abs, inl, inr, mul-le-mul}
 use Rattle.std.specs.Prelude.{◌≤ℤ◌, ◌<ℤ◌}
 use Rattle.std.specs.List.{All}
 use Rattle.std.proofs.lemmas.Int.{ints}
 use Rattle.std.proofs.lemmas.Bool.{cases_lt}
 use Rattle.std.proofs.lemmas.List.{length-append, take-append-le, take_all, drop-append-le, drop_at, length-drop, get_or_append_left, get_or-append_right}
 use Rattle.std.proofs.lemmas.List.Elements.{All-nil, All-cons, All-append}
-use Rattle.lt_model.specs.Vectors.{plus, scale, dot, unit, zeros, combine, AreLinearlyIndependent}
-use Rattle.lt_model.specs.Flat.{rows}
+use Rattle.lt_model.specs.Vectors.{scale, unit, zeros, combine, AreLinearlyIndependent}
 use Rattle.lt_model.specs.Simplices.{AllOfDimension, IsSimplex, translate}
 use Rattle.lt_model.proofs.Differences.{differences_from_independent}
 use Rattle.lt_model.proofs.Flat.{get-first_rows}

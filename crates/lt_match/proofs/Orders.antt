@@ -1,11 +1,10 @@
 -- Orders of the vertices of a class.
-use Rattle.std.proofs.Common.{◌≡◌, ◌≢◌, ◌<◌, ◌≤◌, ◌+◌, ◌++◌, ◌^◌, ◌⊎◌, ℕ, zero, suc, ℤ, negsuc, refl, ap, arith, sym, ◌∙◌, subst, List, [], ◌∷◌, length, map, get_or, drop, inl, inr, append_assoc}
+use Rattle.std.proofs.Common.{◌≡◌, ◌<◌, ◌+◌, ◌++◌, ℕ, zero, suc, ℤ, refl, ap, arith, sym, ◌∙◌, subst, List, [], ◌∷◌, length, map, get_or, drop, append_assoc}
 use Rattle.std.specs.List.{All, AllByRecursion, Contains}
-use Rattle.std.proofs.lemmas.List.{drop_more, get_or_default, length-map}
+use Rattle.std.proofs.lemmas.List.{drop_more, length-map}
 use Rattle.std.proofs.lemmas.List.Elements.{Contains-get_or}
-use Rattle.lt_model.specs.Vectors.{minus, scale, zeros}
-use Rattle.lt_model.specs.Limits.{span_limit}
-use Rattle.lt_model.specs.Matrices.{apply, IsSquare}
+use Rattle.lt_model.specs.Vectors.{minus, zeros}
+use Rattle.lt_model.specs.Matrices.{IsSquare}
 use Rattle.lt_model.specs.Principal.{IsOrder}
 use Rattle.lt_model.specs.Simplices.{AllOfDimension, IsClass}
 use Rattle.lt_geometry.specs.Carrying.{IsCandidate}

@@ -1,14 +1,13 @@
 -- The span of the image of a triangulation.
-use Rattle.std.proofs.Common.{◌≡◌, ◌<◌, ◌≤◌, ◌^◌, ◌*◌, ◌-◌, ℕ, zero, suc, ℤ, pos, refl, ap, ap₂, arith, sym, ◌∙◌, subst, List, [], ◌∷◌, length, map, get_or, min, max, ◌↔◌}
-use Rattle.std.specs.Prelude.{◌<ℤ◌}
+use Rattle.std.proofs.Common.{◌≡◌, ◌<◌, ◌≤◌, ◌^◌, ◌*◌, ℕ, ℤ, pos, ap, ap₂, arith, sym, ◌∙◌, subst, List, [], ◌∷◌, length, map, get_or, min, ◌↔◌}
 use Rattle.std.specs.List.{All, AllByRecursion, Contains}
 use Rattle.std.proofs.lemmas.Int.{ints}
 use Rattle.std.proofs.lemmas.List.{get_or_default}
 use Rattle.std.proofs.lemmas.List.Elements.{Contains-get_or}
 use Rattle.lt_model.specs.Vectors.{plus, minus, zeros}
-use Rattle.lt_model.specs.Limits.{greatest, gap, class_span, span, span_limit}
+use Rattle.lt_model.specs.Limits.{greatest, class_span, span, span_limit}
 use Rattle.lt_model.specs.Matrices.{apply, IsSquare, IsInverse, Carries}
-use Rattle.lt_model.specs.Simplices.{AllOfDimension, AreIndependent, IsSimplex, IsClass, IsClassOf, translate}
+use Rattle.lt_model.specs.Simplices.{AllOfDimension, AreIndependent, IsSimplex, IsClass, IsClassOf}
 use Rattle.lt_model.proofs.Sets.{each_holds, Contains-head, Contains-tail}
 use Rattle.lt_model.proofs.Moved.{Contains-translate}
 use Rattle.lt_model.proofs.Dependent.{length-map_vectors}

@@ -1,12 +1,12 @@
 -- A matrix carries one triangulation onto another exactly where there are as many classes, each class goes to a member, and the
 -- matrix has an inverse.
-use Rattle.std.proofs.Common.{◌≡◌, ◌<◌, ◌≤◌, ◌-◌, ◌*◌, ℕ, suc, ℤ, arith, ap, sym, ◌∙◌, subst, List, [], length, map, get_or}
+use Rattle.std.proofs.Common.{◌≡◌, ◌<◌, ◌*◌, ℕ, ℤ, arith, sym, ◌∙◌, subst, List, [], length, get_or}
 use Rattle.std.specs.List.{Contains}
 use Rattle.std.proofs.lemmas.List.{get_or_default}
 use Rattle.std.proofs.lemmas.List.Elements.{Contains-get_or}
-use Rattle.lt_model.specs.Matrices.{apply, IsSquare, IsInverse, Carries}
+use Rattle.lt_model.specs.Matrices.{IsSquare, IsInverse, Carries}
 use Rattle.lt_model.specs.Simplices.{IsClass}
-use Rattle.lt_geometry.proofs.Matrices.{IsUndone, undone}
+use Rattle.lt_geometry.proofs.Matrices.{undone}
 use Rattle.lt_geometry.proofs.Images.{HasCarried, has_carried, carried_class, carries_undone}
 use Rattle.lt_geometry.proofs.Counted.{as_many, carries_from_counts}
 use Rattle.lt_triang.specs.Kept.{IsTriangulation}

@@ -43,7 +43,14 @@ fn targets(d: usize, s: &[Point], order: &[usize]) -> ArrayVec<Point, 7>
 }
 
 /// The candidate of an order of the vertices of a member of `to`, where it carries.
-fn attempt(d: usize, basis: &Basis, from: &Triangulation, to: &Triangulation, s: &[Point], order: &[usize]) -> Option<Matrix>
+fn attempt(
+    d: usize,
+    basis: &Basis,
+    from: &Triangulation,
+    to: &Triangulation,
+    s: &[Point],
+    order: &[usize],
+) -> Option<Matrix>
     requires origin { IsTriangulation d from.now }
     requires target { IsTriangulation d to.now }
     requires count { length from.now ≡ length to.now }
@@ -93,7 +100,14 @@ fn with_last(chosen: &[usize], k: usize) -> ArrayVec<usize, 7>
 
 /// The match of the first order that begins with the numbers and has one, where orders are compared number by number. The orders are
 /// gone through in place: a list of each would take memory for every candidate.
-fn search(d: usize, basis: &Basis, from: &Triangulation, to: &Triangulation, s: &[Point], chosen: &[usize]) -> Option<Matrix>
+fn search(
+    d: usize,
+    basis: &Basis,
+    from: &Triangulation,
+    to: &Triangulation,
+    s: &[Point],
+    chosen: &[usize],
+) -> Option<Matrix>
     requires origin { IsTriangulation d from.now }
     requires target { IsTriangulation d to.now }
     requires count { length from.now ≡ length to.now }
@@ -118,7 +132,12 @@ fn search(d: usize, basis: &Basis, from: &Triangulation, to: &Triangulation, s: 
 }
 
 /// The places of the members of `to` that may have a match, in ascending order.
-fn candidate_places(alloc: Global, d: usize, from: &Triangulation, to: &Triangulation) -> Result<Vec<usize>, Memory>
+fn candidate_places(
+    alloc: Global,
+    d: usize,
+    from: &Triangulation,
+    to: &Triangulation,
+) -> Result<Vec<usize>, Memory>
     ensures { IfOk result (λ places. ArePlaces d from.now to.now places.items) }
 {
     let mut places = Vec::new(alloc);
@@ -132,7 +151,12 @@ fn candidate_places(alloc: Global, d: usize, from: &Triangulation, to: &Triangul
 }
 
 /// The first match, where members are gone through by the places.
-fn first_match(d: usize, from: &Triangulation, to: &Triangulation, places: &[usize]) -> Option<Matrix>
+fn first_match(
+    d: usize,
+    from: &Triangulation,
+    to: &Triangulation,
+    places: &[usize],
+) -> Option<Matrix>
     requires origin { IsTriangulation d from.now }
     requires target { IsTriangulation d to.now }
     requires count { length from.now ≡ length to.now }
@@ -152,7 +176,11 @@ fn first_match(d: usize, from: &Triangulation, to: &Triangulation, places: &[usi
 /// The first matrix that carries `from` onto `to`, or None where none does. The matrices are ordered by the member of `to` to which the
 /// first class of `from` goes, and then by the order in which its vertices go to that member's, lexicographically. Both triangulations
 /// are Delaunay triangulations of some form. Memory where memory was refused.
-pub fn match_types(alloc: Global, from: &Triangulation, to: &Triangulation) -> Result<Option<Matrix>, Memory>
+pub fn match_types(
+    alloc: Global,
+    from: &Triangulation,
+    to: &Triangulation,
+) -> Result<Option<Matrix>, Memory>
     requires same { dimension_of to.now ≡ dimension_of from.now }
     requires delaunay { (q : List ℤ) × IsDelaunay (dimension_of from.now) q from.now }
     requires delaunay_too { (q : List ℤ) × IsDelaunay (dimension_of from.now) q to.now }

@@ -79,7 +79,12 @@ fn image_class(d: usize, u: &Matrix, s: &[Point]) -> Class
 }
 
 /// The classes of the images of the members, in the order of the members.
-fn image_classes(alloc: Global, d: usize, u: &Matrix, t: &Triangulation) -> Result<Vec<Class>, Memory>
+fn image_classes(
+    alloc: Global,
+    d: usize,
+    u: &Matrix,
+    t: &Triangulation,
+) -> Result<Vec<Class>, Memory>
     requires square { length u.now ≡ d * d }
     requires inverse { (v : List (List ℤ)) × IsInverse d (rows d u.now) v }
     requires origin { IsTriangulation d t.now }

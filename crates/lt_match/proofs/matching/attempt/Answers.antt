@@ -1,13 +1,12 @@
-use Rattle.std.proofs.Common.{arith, ◌≡◌, ◌<◌, ◌≤◌, ◌*◌, ◌∙◌, ℕ, suc, ℤ, List, [], length, get_or, sym, subst, ap}
+use Rattle.std.proofs.Common.{◌≡◌, ◌∙◌, ℕ, ℤ, List, [], get_or, sym, subst}
 use Rattle.std.proofs.lemmas.Bool.{false≢true}
 use Rattle.lt_model.specs.Limits.{span_limit}
 use Rattle.lt_model.specs.Flat.{rows}
 use Rattle.lt_model.specs.Matrices.{IsSquare}
-use Rattle.lt_model.specs.Simplices.{IsClass}
 use Rattle.lt_model.proofs.Flat.{rows_square}
 use Rattle.lt_match.specs.Images.{TakesTo}
 use Rattle.lt_match.specs.Matches.{in_order}
-use Rattle.lt_match.proofs.Orders.{count_order, order_dimension, order_first, order_near, takes_from}
+use Rattle.lt_match.proofs.Orders.{order_dimension, order_first, order_near, takes_from}
 use Rattle.lt_match.proofs.Tested.{first_member}
 use Rattle.lt_match.proofs.Attempts.{first_class, class_near, class_within, order_simplex, match_goes, match_comes_back, match_made}
 use Rattle.lt_match.proofs.matching.attempt.Goals as goal

@@ -1,7 +1,6 @@
-use Rattle.std.proofs.Common.{arith, ◌≡◌, ◌∙◌, ℕ, ℤ, List, length, sym, subst}
+use Rattle.std.proofs.Common.{◌∙◌, ℕ, sym, subst}
 use Rattle.lt_model.specs.Matrices.{AreEquivalent}
 use Rattle.lt_triang.specs.Kept.{IsTriangulation}
-use Rattle.lt_match.specs.Images.{dimension_of}
 use Rattle.lt_match.proofs.Tested.{dimension_is, same_dimension, tested_count}
 use Rattle.lt_match.proofs.Firsts.{size_told, first_told}
 use Rattle.lt_match.proofs.matching.match_types.Goals as goal

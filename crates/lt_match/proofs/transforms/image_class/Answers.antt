@@ -3,9 +3,8 @@ use Rattle.std.proofs.lemmas.Bool.{false≢true}
 use Rattle.lt_model.specs.Flat.{rows}
 use Rattle.lt_model.specs.Limits.{span_limit}
 use Rattle.lt_model.specs.Matrices.{apply, IsSquare}
-use Rattle.lt_model.specs.Simplices.{AllOfDimension, IsSimplex}
+use Rattle.lt_model.specs.Simplices.{AllOfDimension}
 use Rattle.lt_model.proofs.Flat.{rows_square}
-use Rattle.lt_geometry.proofs.Matrices.{map-apply_all}
 use Rattle.lt_triang.specs.Bounds.{AreNear}
 use Rattle.lt_triang.specs.Flat.{IsFlat, IsClassAt}
 use Rattle.lt_match.proofs.Spans.{images_near, images_within, images_simplex, not_flat}

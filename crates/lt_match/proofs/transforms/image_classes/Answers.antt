@@ -1,4 +1,4 @@
-use Rattle.std.proofs.Common.{arith, ◌≡◌, ◌∙◌, [], get_or, length}
+use Rattle.std.proofs.Common.{arith, [], get_or}
 use Rattle.std.proofs.lemmas.List.Elements.{Contains-get_or}
 use Rattle.lt_model.specs.Flat.{rows}
 use Rattle.lt_match.proofs.Spans.{told_at}
