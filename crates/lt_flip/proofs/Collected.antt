@@ -23,7 +23,7 @@ pub record IsFlippable (d : ℕ) (a : List ℤ) (t : List (List (List ℤ))) (n 
   pub facet : IsFacet d t n
 
 -- what holds below m and at m holds below the next number
-next_too : (P : ℕ → Type 0) (m : ℕ) → ((i : ℕ) → i < m → P i) → P m → (i : ℕ) → i < suc m → P i
+pub next_too : (P : ℕ → Type 0) (m : ℕ) → ((i : ℕ) → i < m → P i) → P m → (i : ℕ) → i < suc m → P i
 next_too P m h p i l = below_more P m h p i (omega arith)
 
 -- what is made of a member stays in a longer list
