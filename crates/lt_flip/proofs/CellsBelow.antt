@@ -1,5 +1,5 @@
 -- The points of the cells of the members, one after the other, are those of all cells.
-use Rattle.std.proofs.Common.{◌≡◌, ℕ, suc, ℤ, pos, ◌<◌, ◌≤◌, ◌-◌, ◌+◌, arith, ap₂, sym, ◌∙◌, subst, List, [], ◌∷◌, ◌++◌, length, map, take, get_or, ◌⊎◌, inl, inr, ◌↔◌}
+use Rattle.std.proofs.Common.{◌≡◌, ℕ, suc, ℤ, ◌<◌, ◌-◌, ◌+◌, arith, ap₂, sym, ◌∙◌, subst, List, [], ◌∷◌, ◌++◌, length, map, take, get_or, inl, inr, ◌↔◌}
 use Rattle.std.specs.List.{Contains, All}
 use Rattle.std.specs.List.Sorted.{IsStrictlySortedBy}
 use Rattle.std.proofs.lemmas.List.{get_or_default, map-append, take_more}
@@ -7,9 +7,8 @@ use Rattle.std.proofs.lemmas.List.Elements.{Contains-get_or, Contains-push, Cont
 use Rattle.lt_model.proofs.Sets.{Contains-head, Contains-tail, Contains-cases, Contains-none}
 use Rattle.lt_model.specs.Order.{simplex_cmp}
 use Rattle.lt_model.specs.Simplices.{IsExpression}
-use Rattle.lt_model.specs.Facets.{IsBeyond, IsNeighbour}
+use Rattle.lt_model.specs.Facets.{IsBeyond}
 use Rattle.lt_model.specs.Walls.{IsPair}
-use Rattle.lt_geometry.specs.Regulators.{outer_vertex}
 use Rattle.lt_geometry.proofs.WalkEnds.{not_vertex}
 use Rattle.lt_geometry.proofs.Regulators.{from_pair}
 use Rattle.lt_geometry.proofs.ExchangeLaws.{any_pair, one_outer}
@@ -29,9 +28,6 @@ outer_outside d a t s n w c b k ms o h =
 still_there : (d : ℕ) (t : List (List (List ℤ))) (n : List ℤ) (s : List (List ℤ)) (all more : List (List (List ℤ))) → ((r : List (List ℤ)) → Contains all r → Contains more r) → HasCellOf d t n s all → HasCellOf d t n s more
 still_there d t n s all more f (inl h) = inl h
 still_there d t n s all more f (inr (ps, c, g)) = inr (ps, f ps c, g)
-
-pub no_cells : (d : ℕ) (t : List (List (List ℤ))) (n : List ℤ) → AreCellPointsBelow d t n 0 []
-no_cells d t n = record { only = λ s c. absurd (let l = c.1 in omega (arith, l)); each = λ i h. absurd (omega arith) }
 
 pub no_cell_more : (d : ℕ) (t : List (List (List ℤ))) (n : List ℤ) (m : ℕ) (all : List (List (List ℤ))) → AreCellPointsBelow d t n m all → HasNoFacet d t (get_or t m []) n → AreCellPointsBelow d t n (suc m) all
 no_cell_more d t n m all h none = record { only = h.only; each = next_too (λ i. HasCellOf d t n (get_or t i []) all) m h.each (inl none) }

@@ -31,9 +31,6 @@ still_flipped : (d : ℕ) (t : List (List (List ℤ))) (n : List ℤ) (s : List 
 still_flipped d t n s all more f (inl h) = inl (h.0, f s h.1)
 still_flipped d t n s all more f (inr h) = inr (record { vertex = h.vertex; scale = h.scale; coefficients = h.coefficients; outer = h.outer; each = λ k r m. f r (h.each k r m) })
 
-pub none_below : (d : ℕ) (t : List (List (List ℤ))) (n : List ℤ) → AreFlippedBelow d t n 0 []
-none_below d t n = record { only = λ s c. absurd (let l = c.1 in omega (arith, l)); each = λ i h. absurd (omega arith) }
-
 -- a member with the regulator at none of its facets stays
 pub kept_more : (d : ℕ) (a : List ℤ) (t : List (List (List ℤ))) (n : List ℤ) (m : ℕ) (all : List (List (List ℤ))) → IsFlippable d a t n → m < length t → AreFlippedBelow d t n m all → HasNoFacet d t (get_or t m []) n → AreFlippedBelow d t n (suc m) (all ++ get_or t m [] ∷ [])
 kept_more d a t n m all k hm h none =

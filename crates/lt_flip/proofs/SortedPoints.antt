@@ -1,5 +1,5 @@
 -- A point and the vertices of a class without it, in ascending order, moved so that the first is 0.
-use Rattle.std.proofs.Common.{◌≡◌, ℕ, zero, suc, ℤ, negsuc, ◌<◌, ◌≤◌, ◌+◌, ◌*◌, ◌^◌, refl, ap, ap₂, arith, sym, ◌∙◌, subst, Bool, true, false, List, [], ◌∷◌, length, get_or, ◌⊎◌, inl, inr, ◌↔◌}
+use Rattle.std.proofs.Common.{◌≡◌, ℕ, suc, ℤ, negsuc, ◌+◌, ◌*◌, ◌^◌, refl, ap, ap₂, arith, sym, ◌∙◌, subst, true, false, List, [], ◌∷◌, length, get_or, ◌⊎◌, inl, inr}
 use Rattle.std.specs.declared.cmp.Ordering.{Ordering}
 use Rattle.std.specs.declared.cmp.Ordering.TheVariants.{Less, Equal, Greater}
 use Rattle.std.specs.Ordering.{eq_by_cmp, is_eq, is_lt, ordering_reverse}
@@ -9,15 +9,14 @@ use Rattle.std.proofs.lemmas.Cmp.{eq_by_cmp_equiv}
 use Rattle.std.proofs.lemmas.Map.Keys.{IsDistinct-IsPermutation, IsDistinct-from_sorted}
 use Rattle.std.proofs.lemmas.List.Sorted.{Contains-permutation, IsPermutation-sym, length_permutation, sorted_far}
 use Rattle.std.proofs.lemmas.List.Sorted.{ranks_by}
-use Rattle.std.proofs.lemmas.List.Elements.{Contains-get_or}
-use Rattle.lt_model.proofs.Sets.{Contains-head, Contains-tail, Contains-cases, each_holds, same_members, number_list_cmp_total}
+use Rattle.lt_model.proofs.Sets.{Contains-head, Contains-tail, each_holds, same_members, number_list_cmp_total}
 use Rattle.lt_model.proofs.Squares.{length-scale}
 use Rattle.lt_model.proofs.Moved.{translate_all, translate-back}
 use Rattle.lt_model.proofs.Excess.{length-translate}
 use Rattle.lt_model.proofs.Translates.{get-translate, ascending_translate}
 use Rattle.lt_model.specs.Limits.{span_limit}
 use Rattle.lt_model.specs.Order.{number_list_cmp}
-use Rattle.lt_model.specs.Vectors.{plus, minus, scale, zeros}
+use Rattle.lt_model.specs.Vectors.{plus, minus, scale}
 use Rattle.lt_model.specs.Simplices.{AllOfDimension, IsClass, translate}
 use Rattle.lt_geometry.proofs.LocalWalk.{zeros-plus}
 use Rattle.lt_lattice.specs.Ranges.{IsWithin}

@@ -1,14 +1,11 @@
 -- Cells of a regulator: the points of two members that have it at their common facet, and their affine dependency.
 -- Voronoi 1908; Schürmann, chapter 4 ("repartitioning polytopes").
-use Rattle.std.specs.Prelude.{ℕ, suc, ℤ, ◌*◌, ◌<◌, ◌≤◌, ◌≡◌, ◌↔◌, ◌⊎◌, List, [], ◌∷◌, length, get_or, map}
+use Rattle.std.specs.Prelude.{ℕ, ℤ, ◌<◌, ◌≡◌, ◌↔◌, ◌⊎◌, List, [], ◌∷◌, length, get_or, map}
 use Rattle.std.specs.List.{Contains, All}
 use Rattle.std.specs.List.Sorted.{IsStrictlySortedBy}
-use Rattle.lt_model.specs.Limits.{span_limit}
-use Rattle.lt_model.specs.Order.{number_list_cmp, simplex_cmp}
-use Rattle.lt_model.specs.Vectors.{zeros}
-use Rattle.lt_model.specs.Simplices.{AllOfDimension, translate}
+use Rattle.lt_model.specs.Order.{simplex_cmp}
+use Rattle.lt_model.specs.Simplices.{translate}
 use Rattle.lt_model.specs.Walls.{IsPair}
-use Rattle.lt_triang.specs.Bounds.{AreNear}
 use Rattle.lt_triang.specs.Flat.{IsFlat}
 use Rattle.lt_flip.specs.Ascending.{AreAscending}
 use Rattle.lt_flip.specs.Outers.{HasNoFacet}

@@ -143,7 +143,11 @@ fn push_cell_points(
 }
 
 /// The points of the cells, in the order of the classes that stand in them.
-fn all_cell_points(alloc: Global, t: &Triangulation, facet: &Normal) -> Result<Vec<CellPoints>, Memory>
+fn all_cell_points(
+    alloc: Global,
+    t: &Triangulation,
+    facet: &Normal,
+) -> Result<Vec<CellPoints>, Memory>
     requires low { 2 ≤ dimension_of t.now }
     requires delaunay { IsOfSomeForm t.now }
     requires facet { IsFacet (dimension_of t.now) t.now facet.now }

@@ -1,13 +1,11 @@
-use Rattle.std.proofs.Common.{◌≡◌, ◌∷◌, ◌<◌, sym, ◌∙◌, subst, arith, negsuc, [], get_or, length, List, ℤ, ◌*◌}
-use Rattle.std.specs.List.Sorted.{IsPermutation, IsSorted}
+use Rattle.std.proofs.Common.{◌≡◌, ◌∷◌, sym, subst, arith, negsuc, [], get_or, ◌*◌}
 use Rattle.lt_model.specs.Limits.{span_limit}
-use Rattle.lt_model.specs.Order.{number_list_cmp}
 use Rattle.lt_model.specs.Vectors.{scale}
 use Rattle.lt_model.specs.Simplices.{translate}
 use Rattle.lt_triang.specs.Bounds.{AreNear}
 use Rattle.lt_flip.specs.Ascending.{AreAscending}
 use Rattle.lt_flip.specs.Cells.{IsMovedFrom}
-use Rattle.lt_flip.proofs.SortedPoints.{IsSortedCell, sorted_cell}
+use Rattle.lt_flip.proofs.SortedPoints.{sorted_cell}
 use Rattle.lt_flip.proofs.cell_list.cell_points.Goals as goal
 
 pub moved_back-requires-clause-some : goal.moved_back-requires-clause-some

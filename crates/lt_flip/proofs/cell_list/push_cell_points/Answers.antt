@@ -1,4 +1,4 @@
-use Rattle.std.proofs.Common.{◌≡◌, ℕ, ℤ, suc, ◌∷◌, ◌++◌, [], List, ap, sym, ◌∙◌, subst, arith, get_or, length, ◌*◌}
+use Rattle.std.proofs.Common.{◌≡◌, ℕ, ℤ, suc, ◌∷◌, [], List, sym, ◌∙◌, subst, arith, get_or, ◌*◌}
 use Rattle.std.specs.List.{Contains}
 use Rattle.std.proofs.lemmas.List.Elements.{Contains-get_or}
 use Rattle.lt_model.specs.Limits.{span_limit}

@@ -1,8 +1,8 @@
-use Rattle.std.proofs.Common.{◌≡◌, ◌++◌, ◌∷◌, [], ◌∙◌, sym, subst, arith, ap, neg_ℤ, pos, ℤ, List, ◌^◌}
+use Rattle.std.proofs.Common.{◌≡◌, ◌++◌, ◌∷◌, [], ◌∙◌, sym, subst, arith, ap, neg_ℤ, ℤ, List, ◌^◌}
 use Rattle.std.proofs.lemmas.Int.{ints}
 use Rattle.std.specs.List.{All}
 use Rattle.lt_lattice.specs.Ranges.{IsWithin}
-use Rattle.lt_triang.specs.Flat.{IsFlat, leading}
+use Rattle.lt_triang.specs.Flat.{leading}
 use Rattle.lt_flip.proofs.Dependencies.{last_near, from_expression, from_flat, turned_flat, kept_flat, within_terms}
 use Rattle.lt_flip.proofs.terms.terms_of.Goals as goal
 
