@@ -161,19 +161,19 @@ same_lists (suc n) (a ∷ p) (b ∷ r) lp lr h =
 -- ---- an order's numbers are below its length
 
 -- the numbers from n down to 0
-abbrev down_from : ℕ → List ℕ
+abbrev pub down_from : ℕ → List ℕ
 down_from zero = []
 down_from (suc n) = n ∷ down_from n
 
-down_below : (n k : ℕ) → Contains (down_from n) k → k < n
+pub down_below : (n k : ℕ) → Contains (down_from n) k → k < n
 down_below zero k c = Contains-none k c
 down_below (suc n) k c = elim (Contains-cases n (down_from n) k c) [ inl e ↦ omega (arith, e) | inr r ↦ let h = down_below n k r in omega (arith, h) ]
 
-length-down : (n : ℕ) → length (down_from n) ≡ n
+pub length-down : (n : ℕ) → length (down_from n) ≡ n
 length-down zero = refl
 length-down (suc n) = ap suc (length-down n)
 
-distinct_down : (n : ℕ) → IsDistinct (down_from n)
+pub distinct_down : (n : ℕ) → IsDistinct (down_from n)
 distinct_down zero = tt
 distinct_down (suc n) = (λ c. let h = down_below n n c in omega (arith, h), distinct_down n)
 

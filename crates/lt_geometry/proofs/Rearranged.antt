@@ -142,7 +142,7 @@ module _ {X : Type 0} (e : X) where
   length-arranged xs [] r = sym r
   length-arranged xs (y ∷ ys) r = ap suc (length-arranged (without r.0 xs) ys r.3) ∙ length-without r.0 xs r.1
 
-  other_place : (k m : ℕ) (xs : List X) (x : X) → m < length xs → get_or xs m x ≡ x → (m ≡ k) ⊎ Contains (without k xs) x
+  pub other_place : (k m : ℕ) (xs : List X) (x : X) → m < length xs → get_or xs m x ≡ x → (m ≡ k) ⊎ Contains (without k xs) x
   other_place k m [] x h is = absurd (omega arith)
   other_place zero zero (y ∷ xs) x h is = inl refl
   other_place zero (suc m) (y ∷ xs) x h is = inr (m, omega arith, is)

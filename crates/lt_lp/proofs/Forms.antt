@@ -11,7 +11,7 @@ use Rattle.lt_tableau.specs.Numbers.{sum_below}
 use Rattle.lt_tableau.specs.System.{system_of, counted, normal_column, turned_column, plain_column, unit_column}
 use Rattle.lt_tableau.specs.Table.{Table, IsTableau, entry_of, basic_of, count_of, units_of}
 use Rattle.lt_tableau.specs.Numbers.{column_at}
-use Rattle.lt_lp.specs.Rule.{at_unit, gain_of}
+use Rattle.lt_lp.specs.Rule.{at_unit, gain_of, listed}
 use Rattle.lt_model.proofs.Integers.{zero_add_z, add_zero_z, zero_mul_z}
 use Rattle.lt_model.proofs.Ring.{ring, ring_by, var, num, ◌⊕◌, ◌⊗◌}
 use Rattle.lt_tableau.proofs.Sums.{lookup_scale}
@@ -20,7 +20,7 @@ use Rattle.lt_lp.proofs.Columns.{sum_below_scale}
 use Rattle.lt_lp.proofs.Loops.{nat_le_true}
 use Rattle.lt_lp.proofs.Columns.{filled_in}
 use Rattle.lt_tableau.proofs.Starts.{length-system}
-use Rattle.lt_lp.proofs.Walls.{listed, WallSigns, append_zero}
+use Rattle.lt_lp.proofs.WallSigns.{WallSigns, append_zero}
 
 sum_one : (m i : ℕ) (f : ℕ → ℤ) → i < m → ((q : ℕ) → q < m → q ≢ i → f q ≡ pos 0) → sum_below m f ≡ f i
 sum_one zero i f h z = absurd (omega arith)

@@ -87,11 +87,11 @@ pub record IsEarlier (t : Table) (column row best result : ℕ) : Type 0 where
   pub over_row : row ≢ result → pos 0 <ℤ entry_of t row column → IsBefore t column result row
   pub over_best : best ≢ result → IsBefore t column result best
 
+-- y 0, .. , m numbers
+abbrev pub listed : ℕ → (ℕ → ℤ) → List ℤ
+listed zero y = []
+listed (suc m) y = y zero ∷ listed m (λ (q : ℕ). y (suc q))
 
--- the gains of the first m unit columns, with the sign changed
-abbrev pub turned_from : ℕ → ℕ → Table → List ℤ
-turned_from zero c t = []
-turned_from (suc m) c t = neg_ℤ (gain_of t c) ∷ turned_from m (suc c) t
-
+-- the gains of the first m unit columns, with their signs changed
 abbrev pub turned_gains : ℕ → Table → List ℤ
-turned_gains m t = turned_from m (units_of t) t
+turned_gains m t = listed m (λ (q : ℕ). neg_ℤ (gain_of t (units_of t + q)))

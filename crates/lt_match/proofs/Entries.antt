@@ -1,5 +1,5 @@
 -- How the numbers of a matrix are gathered, row by row.
-use Rattle.std.proofs.Common.{◌≡◌, ◌<◌, ◌≤◌, ◌+◌, ◌-◌, ◌*◌, ◌^◌, ◌⊎◌, ℕ, zero, suc, ℤ, pos, ◌*ℤ◌, refl, ap, arith, sym, ◌∙◌, subst, List, [], ◌∷◌, ◌++◌, length, map, get_or, drop, nat_abs, inl, inr, Bool, true, false, cond, mul-le-mul}
+use Rattle.std.proofs.Common.{◌≡◌, ◌<◌, ◌≤◌, ◌+◌, ◌-◌, ◌*◌, ◌^◌, ℕ, suc, ℤ, pos, ◌*ℤ◌, ap, arith, sym, ◌∙◌, subst, List, [], ◌∷◌, ◌++◌, length, map, get_or, drop, nat_abs, inl, inr, Bool, true, false, cond, mul-le-mul}
 use Rattle.std.specs.Prelude.{◌≤ℤ◌, nat_le, Option, Some, None, MatchOption}
 use Rattle.std.specs.List.{All}
 use Rattle.std.proofs.lemmas.Int.{ints, unsigned_abs-mul}
@@ -69,11 +69,11 @@ entries_more d scales terms targets k j numbers x h hj is below = record {
   each = λ k' j' hj' hp. elim (cases_lt (k' * d + j') (k * d + j)) [
     | inl l ↦ subst (IsEntry d scales terms targets k' j') (sym (get_or_append_left numbers (x ∷ []) (pos 0) (k' * d + j') (omega (arith, h.count, l)))) (h.each k' j' hj' l)
     | inr g ↦
-      let e : k' * d + j' ≡ k * d + j = omega (arith, g, hp) in
-      let same = one_place d k' j' k j hj' hj e in
-      let none : (k' * d + j') - (k * d + j) ≡ 0 = omega (arith, e) in
-      let here : get_or (numbers ++ x ∷ []) (k' * d + j') (pos 0) ≡ x = get_or-append_right numbers (x ∷ []) (k * d + j) (k' * d + j') (pos 0) h.count g ∙ ap (λ n. get_or (x ∷ []) n (pos 0)) none in
-      subst (IsEntry d scales terms targets k' j') (sym here) (rw (same.0, same.1) is)
+        let e : k' * d + j' ≡ k * d + j = omega (arith, g, hp) in
+        let same = one_place d k' j' k j hj' hj e in
+        let none : (k' * d + j') - (k * d + j) ≡ 0 = omega (arith, e) in
+        let here : get_or (numbers ++ x ∷ []) (k' * d + j') (pos 0) ≡ x = get_or-append_right numbers (x ∷ []) (k * d + j) (k' * d + j') (pos 0) h.count g ∙ ap (λ n. get_or (x ∷ []) n (pos 0)) none in
+        subst (IsEntry d scales terms targets k' j') (sym here) (rw (same.0, same.1) is)
   ];
 }
 

@@ -1,5 +1,5 @@
 -- A matrix has an inverse where some matrix takes the images of a simplex back.
-use Rattle.std.proofs.Common.{◌≡◌, ◌<◌, ◌*◌, ◌↔◌, ℕ, suc, ℤ, Bool, ap, arith, sym, ◌∙◌, subst, List, [], length, map, get_or}
+use Rattle.std.proofs.Common.{◌≡◌, ◌<◌, ◌*◌, ◌↔◌, ℕ, suc, ℤ, Bool, ap, arith, sym, ◌∙◌, List, [], length, map, get_or}
 use Rattle.std.specs.Prelude.{IsTrue, Option, Some, None, is_some, IfSome, MatchOption}
 use Rattle.std.specs.List.{Contains}
 use Rattle.std.proofs.lemmas.Bool.{false≢true}

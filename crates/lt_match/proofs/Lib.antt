@@ -8,3 +8,8 @@ pub mod Taking
 pub mod Entries
 pub mod Inverses
 pub mod Tested
+pub mod Orders
+pub mod Attempts
+pub mod Beginnings
+pub mod Firsts
+pub mod Spans

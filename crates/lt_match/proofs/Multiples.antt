@@ -1,13 +1,12 @@
 -- How a basis is gathered, row by row, and that it exists.
-use Rattle.std.proofs.Common.{◌≡◌, ◌<◌, ◌≤◌, ◌+◌, ◌-◌, ◌*◌, ◌^◌, ℕ, zero, suc, ℤ, pos, negsuc, ◌+ℤ◌, ◌*ℤ◌, refl, ap, arith, sym, ◌∙◌, subst, List, [], ◌∷◌, ◌++◌, length, get_or, drop, take, nat_abs, inl, inr, mul-le-mul}
+use Rattle.std.proofs.Common.{◌≡◌, ◌<◌, ◌≤◌, ◌+◌, ◌-◌, ◌*◌, ◌^◌, ℕ, zero, suc, ℤ, pos, negsuc, ◌*ℤ◌, refl, ap, arith, sym, ◌∙◌, subst, List, [], ◌∷◌, ◌++◌, length, get_or, drop, take, nat_abs, inl, inr, mul-le-mul}
 use Rattle.std.specs.Prelude.{◌≤ℤ◌, ◌<ℤ◌}
 use Rattle.std.specs.List.{All}
 use Rattle.std.proofs.lemmas.Int.{ints}
 use Rattle.std.proofs.lemmas.Bool.{cases_lt}
 use Rattle.std.proofs.lemmas.List.{length-append, take-append-le, take_all, drop-append-le, drop_at, length-drop, get_or_append_left, get_or-append_right}
 use Rattle.std.proofs.lemmas.List.Elements.{All-nil, All-cons, All-append}
-use Rattle.lt_model.specs.Vectors.{plus, scale, dot, unit, zeros, combine, AreLinearlyIndependent}
-use Rattle.lt_model.specs.Flat.{rows}
+use Rattle.lt_model.specs.Vectors.{scale, unit, zeros, combine, AreLinearlyIndependent}
 use Rattle.lt_model.specs.Simplices.{AllOfDimension, IsSimplex, translate}
 use Rattle.lt_model.proofs.Differences.{differences_from_independent}
 use Rattle.lt_model.proofs.Flat.{get-first_rows}
@@ -34,7 +33,7 @@ rest_independent d (v ∷ vs) low h first =
     let free : AreLinearlyIndependent (translate (scale (negsuc 0) v) vs) = differences_from_independent d v vs (omega (arith, count, low)) count h.points (λ b lb sb nb. h.independent b lb sb nb) in
     subst AreLinearlyIndependent (ap (λ (p : List ℤ). translate (scale (negsuc 0) p) vs) first ∙ kept d vs h.points.1) free
 
-none_leads : (n : ℕ) → leading (zeros n) ≡ pos 0
+pub none_leads : (n : ℕ) → leading (zeros n) ≡ pos 0
 none_leads zero = refl
 none_leads (suc n) = none_leads n
 

@@ -1,7 +1,7 @@
 -- The search by halves among ascending classes.
-use Rattle.std.proofs.Common.{◌≡◌, ℕ, ◌<◌, ◌≤◌, ◌+◌, ◌⊎◌, inl, inr, ap, arith, sym, ◌∙◌, subst, refl, ℤ, List, [], length, get_or}
+use Rattle.std.proofs.Common.{◌≡◌, ℕ, ◌<◌, ◌≤◌, ◌+◌, inl, inr, ap, arith, sym, ◌∙◌, subst, ℤ, List, [], length, get_or}
 use Rattle.std.specs.declared.cmp.Ordering.{Ordering}
-use Rattle.std.specs.declared.cmp.Ordering.TheVariants.{Less, Equal, Greater}
+use Rattle.std.specs.declared.cmp.Ordering.TheVariants.{Less, Greater}
 use Rattle.std.specs.Ordering.{ordering_reverse}
 use Rattle.std.specs.Cmp.{IsTotalOrder}
 use Rattle.std.specs.List.{Contains}
@@ -28,9 +28,9 @@ pub above_at : (t : List (List (List ℤ))) (x : List (List ℤ)) (m n : ℕ) �
 above_at t x m n asc more h hn =
     elim (cases_lt m n) [
       | inl after ↦
-        let below : simplex_cmp x (get_or t m []) ≡ Less = total.antisymm x (get_or t m []) ∙ ap ordering_reverse more in
-        let all : simplex_cmp x (get_or t n []) ≡ Less = total.trans x (get_or t m []) (get_or t n []) below (Less-from_sorted simplex_cmp t m n [] asc after hn) in
-        total.antisymm (get_or t n []) x ∙ ap ordering_reverse all
+          let below : simplex_cmp x (get_or t m []) ≡ Less = total.antisymm x (get_or t m []) ∙ ap ordering_reverse more in
+          let all : simplex_cmp x (get_or t n []) ≡ Less = total.trans x (get_or t m []) (get_or t n []) below (Less-from_sorted simplex_cmp t m n [] asc after hn) in
+          total.antisymm (get_or t n []) x ∙ ap ordering_reverse all
       | inr before ↦ let same : m ≡ n = omega arith in subst (λ (k : ℕ). simplex_cmp (get_or t k []) x ≡ Greater) same more
     ]
 

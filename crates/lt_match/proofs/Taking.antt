@@ -3,10 +3,9 @@ use Rattle.std.proofs.Common.{◌≡◌, ◌<◌, ◌≤◌, ◌+◌, ◌*◌, �
 use Rattle.std.specs.Prelude.{◌≤ℤ◌, ◌<ℤ◌, nat_le}
 use Rattle.std.specs.List.{AllByRecursion}
 use Rattle.std.proofs.lemmas.Int.{ints}
-use Rattle.std.proofs.lemmas.List.{get_or-drop, length-drop, length-map}
+use Rattle.std.proofs.lemmas.List.{get_or-drop, length-map}
 use Rattle.lt_model.specs.Vectors.{plus, scale, dot, unit, zeros, combine, AreLinearlyIndependent}
 use Rattle.lt_model.specs.Facets.{number_at}
-use Rattle.lt_model.specs.Limits.{span_limit}
 use Rattle.lt_model.specs.Matrices.{apply, identity, IsSquare}
 use Rattle.lt_model.specs.Flat.{rows}
 use Rattle.lt_model.specs.Simplices.{AllOfDimension, IsSimplex}
@@ -58,14 +57,14 @@ known_sum points values r e f k l = record {
   positive = mul_pos_z k.factor l.factor k.positive l.positive;
   count = length-plus (scale l.factor k.numbers) (scale k.factor l.numbers) (length-scale l.factor k.numbers ∙ k.count ∙ sym (length-scale k.factor l.numbers ∙ l.count)) ∙ length-scale l.factor k.numbers ∙ k.count;
   sum =
-    combine-plus (scale l.factor k.numbers) (scale k.factor l.numbers) points
-    ∙ ap₂ plus (scale-combine l.factor k.numbers points ∙ ap (scale l.factor) k.sum ∙ scale-scale l.factor k.factor e ∙ ap (λ z. scale z e) (mul_comm_z l.factor k.factor)) (scale-combine k.factor l.numbers points ∙ ap (scale k.factor) l.sum ∙ scale-scale k.factor l.factor f)
-    ∙ sym (scale-plus (k.factor *ℤ l.factor) e f);
+      combine-plus (scale l.factor k.numbers) (scale k.factor l.numbers) points
+      ∙ ap₂ plus (scale-combine l.factor k.numbers points ∙ ap (scale l.factor) k.sum ∙ scale-scale l.factor k.factor e ∙ ap (λ z. scale z e) (mul_comm_z l.factor k.factor)) (scale-combine k.factor l.numbers points ∙ ap (scale k.factor) l.sum ∙ scale-scale k.factor l.factor f)
+      ∙ sym (scale-plus (k.factor *ℤ l.factor) e f);
   value =
-    plus-dot (scale l.factor k.numbers) (scale k.factor l.numbers) values
-    ∙ ap₂ (λ (a b : ℤ). a +ℤ b) (scale-dot l.factor k.numbers values ∙ ap (λ z. l.factor *ℤ z) k.value) (scale-dot k.factor l.numbers values ∙ ap (λ z. k.factor *ℤ z) l.value)
-    ∙ both k.factor l.factor (dot r e) (dot r f)
-    ∙ ap (λ z. (k.factor *ℤ l.factor) *ℤ z) (sym (dot-plus r e f));
+      plus-dot (scale l.factor k.numbers) (scale k.factor l.numbers) values
+      ∙ ap₂ (λ (a b : ℤ). a +ℤ b) (scale-dot l.factor k.numbers values ∙ ap (λ z. l.factor *ℤ z) k.value) (scale-dot k.factor l.numbers values ∙ ap (λ z. k.factor *ℤ z) l.value)
+      ∙ both k.factor l.factor (dot r e) (dot r f)
+      ∙ ap (λ z. (k.factor *ℤ l.factor) *ℤ z) (sym (dot-plus r e f));
 }
   where
     both : (p q a b : ℤ) → q *ℤ (p *ℤ a) +ℤ p *ℤ (q *ℤ b) ≡ (p *ℤ q) *ℤ (a +ℤ b)

@@ -1,12 +1,12 @@
 -- A matrix carries one triangulation onto another exactly where there are as many classes, each class goes to a member, and the
 -- matrix has an inverse.
-use Rattle.std.proofs.Common.{◌≡◌, ◌<◌, ◌≤◌, ◌-◌, ℕ, suc, ℤ, arith, ap, sym, ◌∙◌, subst, List, [], length, map, get_or}
+use Rattle.std.proofs.Common.{◌≡◌, ◌<◌, ◌*◌, ℕ, ℤ, arith, sym, ◌∙◌, subst, List, [], length, get_or}
 use Rattle.std.specs.List.{Contains}
 use Rattle.std.proofs.lemmas.List.{get_or_default}
 use Rattle.std.proofs.lemmas.List.Elements.{Contains-get_or}
-use Rattle.lt_model.specs.Matrices.{apply, IsSquare, IsInverse, Carries}
+use Rattle.lt_model.specs.Matrices.{IsSquare, IsInverse, Carries}
 use Rattle.lt_model.specs.Simplices.{IsClass}
-use Rattle.lt_geometry.proofs.Matrices.{IsUndone, undone}
+use Rattle.lt_geometry.proofs.Matrices.{undone}
 use Rattle.lt_geometry.proofs.Images.{HasCarried, has_carried, carried_class, carries_undone}
 use Rattle.lt_geometry.proofs.Counted.{as_many, carries_from_counts}
 use Rattle.lt_triang.specs.Kept.{IsTriangulation}
@@ -19,6 +19,12 @@ pub dimension_is : (d : ℕ) (t : List (List (List ℤ))) → IsTriangulation d 
 dimension_is d t h =
     let k : IsClass d (get_or t 0 []) = h.classes (get_or t 0 []) (first_member d t h) in
     omega (arith, k.simplex.count)
+
+pub same_dimension : (d e : ℕ) (from to : List (List (List ℤ))) → IsTriangulation d from → IsTriangulation e to → dimension_of to ≡ dimension_of from → IsTriangulation d to
+same_dimension d e from to h k same = subst (λ (n : ℕ). IsTriangulation n to) (sym (dimension_is e to k) ∙ same ∙ dimension_is d from h) k
+
+pub square_at : (d : ℕ) (u : List ℤ) (from : List (List (List ℤ))) → IsTriangulation d from → length u ≡ dimension_of from * dimension_of from → length u ≡ d * d
+square_at d u from h e = subst (λ (n : ℕ). length u ≡ n * n) (dimension_is d from h) e
 
 pub carries_tested : (d : ℕ) (u : List (List ℤ)) (t t2 : List (List (List ℤ))) → IsTriangulation d t → IsSquare d u → length t ≡ length t2 → ((n : ℕ) → n < length t → GoesInto d u (get_or t n []) t2) → ((v : List (List ℤ)) × IsInverse d u v) → Carries d u t t2
 carries_tested d u t t2 h square l all (v, inverse) = carries_from_counts d u v t t2 (undone d u v square inverse) h.classes h.ascending l each

@@ -1,12 +1,12 @@
 -- Sums of products with coordinates of points.
-use Rattle.std.proofs.Common.{◌≡◌, ◌<◌, ◌≤◌, ◌+◌, ◌*◌, ◌^◌, ℕ, suc, ℤ, pos, ◌*ℤ◌, arith, sym, ◌∙◌, ap, List, [], length, map, get_or, drop, nat_abs, mul-le-mul}
+use Rattle.std.proofs.Common.{◌≡◌, ◌<◌, ◌≤◌, ◌+◌, ◌*◌, ◌^◌, ℕ, suc, ℤ, pos, ◌*ℤ◌, arith, ◌∙◌, ap, List, [], length, map, get_or, drop, nat_abs, mul-le-mul}
 use Rattle.std.specs.List.{All}
-use Rattle.std.proofs.lemmas.List.{get_or-drop, get_or_default, length-drop, length-map}
+use Rattle.std.proofs.lemmas.List.{get_or-drop, length-drop, length-map}
 use Rattle.lt_model.specs.Facets.{number_at}
 use Rattle.lt_model.specs.Limits.{span_limit}
 use Rattle.lt_model.specs.Simplices.{AllOfDimension}
 use Rattle.lt_model.proofs.Walk.{number_at-map}
-use Rattle.lt_lattice.specs.Ranges.{IsWithin, IsBelow}
+use Rattle.lt_lattice.specs.Ranges.{IsBelow}
 use Rattle.lt_lattice.proofs.Dots.{product_within}
 use Rattle.lt_solve.specs.Systems.{answer_limit}
 use Rattle.lt_triang.specs.Bounds.{AreWithin}

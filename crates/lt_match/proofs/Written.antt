@@ -1,5 +1,5 @@
 -- Numbers of points that are written one after the other.
-use Rattle.std.proofs.Common.{◌≡◌, ◌-◌, ◌*◌, ℕ, zero, suc, ℤ, ap, arith, ◌∙◌, List, [], ◌∷◌, length, drop, take, refl}
+use Rattle.std.proofs.Common.{◌≡◌, ◌-◌, ◌*◌, ℕ, zero, suc, ℤ, ap, ◌∙◌, List, [], ◌∷◌, length, drop, take, refl}
 use Rattle.std.proofs.lemmas.List.{length-drop}
 use Rattle.lt_model.specs.Flat.{flat, first_rows}
 use Rattle.lt_model.specs.Simplices.{AllOfDimension}

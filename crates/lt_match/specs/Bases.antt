@@ -3,7 +3,6 @@ use Rattle.std.specs.Prelude.{ℕ, ℤ, pos, ◌<◌, ◌≤ℤ◌, ◌*ℤ◌, 
 use Rattle.std.specs.List.{All}
 use Rattle.lt_model.specs.Vectors.{scale, dot, unit, combine}
 use Rattle.lt_model.specs.Facets.{number_at}
-use Rattle.lt_model.specs.Limits.{span_limit}
 use Rattle.lt_model.specs.Flat.{rows}
 use Rattle.lt_lattice.specs.Ranges.{IsBelow}
 use Rattle.lt_solve.specs.Systems.{column_limit, answer_limit}

@@ -4,5 +4,9 @@
 mod bases;
 mod carrying;
 mod images;
+mod matching;
+mod transforms;
 
 pub use carrying::carries;
+pub use matching::match_types;
+pub use transforms::{ImageError, image};

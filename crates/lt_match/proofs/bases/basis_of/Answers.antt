@@ -1,4 +1,4 @@
-use Rattle.std.proofs.Common.{arith, ◌≡◌, ◌<◌, ◌≤◌, ◌+◌, ◌*◌, ◌^◌, ◌∙◌, ap, sym, ℕ, ℤ, List, pos, ◌*ℤ◌, length, drop, nat_abs, refl, suc, [], ◌∷◌, ◌++◌}
+use Rattle.std.proofs.Common.{arith, ◌≡◌, ◌<◌, ◌≤◌, ◌+◌, ◌^◌, ◌∙◌, ap, sym, ℕ, ℤ, List, pos, ◌*ℤ◌, length, drop, nat_abs, refl, suc, [], ◌∷◌, ◌++◌}
 use Rattle.std.proofs.lemmas.Int.{ints, to_z-of_z}
 use Rattle.std.proofs.lemmas.List.Elements.{All-head, All-tail}
 use mir.Val.{SFits, to_z, of_z}

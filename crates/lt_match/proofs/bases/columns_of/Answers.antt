@@ -1,10 +1,9 @@
-use Rattle.std.proofs.Common.{arith, ◌≡◌, ◌*◌, ◌-◌, ◌∙◌, ℕ, suc, ℤ, List, ap, length, drop, [], ◌∷◌}
-use Rattle.std.specs.List.{All, AllByRecursion}
+use Rattle.std.proofs.Common.{arith, ◌≡◌, ◌*◌, ◌-◌, ◌∙◌, ℕ, suc, ap, length, drop}
+use Rattle.std.specs.List.{All}
 use Rattle.lt_model.specs.Limits.{span_limit}
 use Rattle.lt_model.specs.Flat.{flat}
 use Rattle.lt_lattice.specs.Ranges.{IsWithin}
-use Rattle.lt_solve.specs.Systems.{chunks, IsSmall, column_limit}
-use Rattle.lt_triang.specs.Bounds.{AreWithin}
+use Rattle.lt_solve.specs.Systems.{chunks}
 use Rattle.lt_triang.proofs.Columned.{All-flat}
 use Rattle.lt_match.proofs.Written.{drop_dimension, length-flat_rest, chunks-flat, drop_within}
 use Rattle.lt_match.proofs.Multiples.{count_rest}

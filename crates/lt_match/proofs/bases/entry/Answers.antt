@@ -1,4 +1,4 @@
-use Rattle.std.proofs.Common.{rules, arith, ◌≡◌, ◌<◌, ◌^◌, ◌∙◌, refl, ℤ, pos, List, [], length, get_or, map, drop, nat_abs}
+use Rattle.std.proofs.Common.{rules, arith, ◌≡◌, ◌<◌, ◌^◌, ◌∙◌, refl, ℤ, pos, [], get_or, map, drop, nat_abs}
 use Rattle.std.proofs.lemmas.Int.{ints, to_z-of_z}
 use mir.Val.{SFits}
 use mir.Syntax.{w128}
@@ -7,7 +7,6 @@ use Rattle.lt_model.specs.Facets.{number_at}
 use Rattle.lt_model.specs.Flat.{rows}
 use Rattle.lt_lattice.proofs.Places.{length_row}
 use Rattle.lt_solve.specs.Systems.{answer_limit}
-use Rattle.lt_match.specs.Bases.{IsBasis}
 use Rattle.lt_match.proofs.Entries.{row_below, entry_found}
 use Rattle.lt_match.proofs.bases.entry.Goals as goal
 

@@ -1,4 +1,4 @@
-use Rattle.std.proofs.Common.{arith, ◌≡◌, ◌*◌, ◌+◌, ◌-◌, ◌≤◌, ◌∙◌, ℕ, suc, ap, sym, List, ℤ, [], length, get_or, drop, mul-le-mul}
+use Rattle.std.proofs.Common.{arith, ◌≡◌, ◌*◌, ◌-◌, ◌≤◌, ◌∙◌, ℕ, suc, ap, sym, [], length, get_or, drop, mul-le-mul}
 use Rattle.std.proofs.lemmas.List.{length-append, get_or_read}
 use Rattle.lt_model.specs.Flat.{flat}
 use Rattle.lt_triang.proofs.Steps.{get_dimension}

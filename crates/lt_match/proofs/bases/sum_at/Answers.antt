@@ -1,4 +1,4 @@
-use Rattle.std.proofs.Common.{rules, arith, ◌≡◌, ◌<◌, ◌≤◌, ◌+◌, ◌*◌, ◌^◌, ◌∙◌, ap, sym, ℕ, ℤ, List, [], pos, ◌*ℤ◌, ◌+ℤ◌, get_or, nat_abs, map, drop}
+use Rattle.std.proofs.Common.{rules, arith, ◌≡◌, ◌<◌, ◌≤◌, ◌+◌, ◌*◌, ◌^◌, ◌∙◌, ap, sym, ℕ, ℤ, [], pos, ◌*ℤ◌, ◌+ℤ◌, get_or, nat_abs, map, drop}
 use Rattle.std.proofs.lemmas.Int.{ints, to_z-of_z}
 use Rattle.std.proofs.lemmas.List.{get_or_read}
 use mir.Val.{SFits, to_z}

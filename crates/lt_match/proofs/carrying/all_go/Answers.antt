@@ -1,4 +1,4 @@
-use Rattle.std.proofs.Common.{arith, ◌≡◌, ◌∙◌, ◌<◌, ◌≤◌, ℕ, ℤ, List, [], get_or, sym, subst, refl, inl, inr}
+use Rattle.std.proofs.Common.{arith, ◌≡◌, ◌∙◌, ℕ, [], get_or, sym, subst, inl, inr}
 use Rattle.std.proofs.lemmas.Bool.{false≢true, cases_lt}
 use Rattle.lt_model.specs.Flat.{rows}
 use Rattle.lt_match.specs.Images.{GoesInto}
@@ -7,8 +7,7 @@ use Rattle.lt_match.proofs.carrying.all_go.Goals as goal
 pub returns-then-not-goes_into : goal.returns-then-not-goes_into
 returns-then-not-goes_into c =
     let n = c.loop-n.n in
-    let told = rw (c.vertices.ensures, c.class.ensures) at c.goes_into.ensures in
-    (
+    let told = rw (c.vertices.ensures, c.class.ensures) at c.goes_into.ensures in (
       λ e. absurd (false≢true e),
       λ all. absurd (false≢true (sym c.if-not-goes_into.true ∙ told.1 (all n c.loop-n.auto.n (omega (arith, c.loop-n-test.true, c.len-n-end.ensures))))),
     )

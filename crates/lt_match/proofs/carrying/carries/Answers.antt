@@ -1,4 +1,4 @@
-use Rattle.std.proofs.Common.{arith, ◌≡◌, ◌∙◌, ◌*◌, ◌<◌, ◌≤◌, ◌^◌, ap, suc, ℕ, ℤ, List, [], map, length, get_or, sym, subst, false}
+use Rattle.std.proofs.Common.{arith, ◌≡◌, ◌∙◌, ℕ, ℤ, List, [], length, get_or, sym, subst, false}
 use Rattle.std.proofs.lemmas.Bool.{false≢true}
 use Rattle.std.specs.Prelude.{IsTrue}
 use Rattle.std.specs.List.{Contains}
@@ -10,20 +10,14 @@ use Rattle.lt_triang.specs.Kept.{IsTriangulation}
 use Rattle.lt_triang.proofs.Gaps.{member_near, within_from_near}
 use Rattle.lt_triang.proofs.Made.{classes_of}
 use Rattle.lt_match.specs.Images.{dimension_of, GoesInto}
-use Rattle.lt_match.proofs.Tested.{dimension_is, first_member, carries_tested, tested_count, tested_all, tested_inverse}
+use Rattle.lt_match.proofs.Tested.{same_dimension, square_at, dimension_is, first_member, carries_tested, tested_count, tested_all, tested_inverse}
 use Rattle.lt_match.proofs.carrying.carries.Goals as goal
-
-same_dimension : (d e : ℕ) (from to : List (List (List ℤ))) → IsTriangulation d from → IsTriangulation e to → dimension_of to ≡ dimension_of from → IsTriangulation d to
-same_dimension d e from to h k same = subst (λ (n : ℕ). IsTriangulation n to) (sym (dimension_is e to k) ∙ same ∙ dimension_is d from h) k
 
 at_dimension : (d : ℕ) (u : List ℤ) (from to : List (List (List ℤ))) (P : Type 0) → dimension_of from ≡ d → ((P → Carries d (rows d u) from to) × (Carries d (rows d u) from to → P)) → ((P → Carries (dimension_of from) (rows (dimension_of from) u) from to) × (Carries (dimension_of from) (rows (dimension_of from) u) from to → P))
 at_dimension d u from to P e h = subst (λ (n : ℕ). (P → Carries n (rows n u) from to) × (Carries n (rows n u) from to → P)) (sym e) h
 
 pub all_go-requires-clause-target : goal.all_go-requires-clause-target
 all_go-requires-clause-target c = same_dimension c.dimension-d.result c.dimension-same.result c.args.from.now c.args.to.now c.dimension-d.ensures c.dimension-same.ensures c.requires.same
-
-square_at : (d : ℕ) (u : List ℤ) (from : List (List (List ℤ))) → IsTriangulation d from → length u ≡ dimension_of from * dimension_of from → length u ≡ d * d
-square_at d u from h e = subst (λ (n : ℕ). length u ≡ n * n) (dimension_is d from h) e
 
 pub returns-then-len : goal.returns-then-len
 returns-then-len c =

@@ -1,4 +1,4 @@
-use Rattle.std.proofs.Common.{arith, ◌≡◌, ◌∙◌, ◌*◌, ◌^◌, ap, suc, ℕ, ℤ, List, [], map, length, get_or, sym}
+use Rattle.std.proofs.Common.{ℤ, List, map}
 use Rattle.std.proofs.lemmas.Bool.{false≢true}
 use Rattle.lt_model.specs.Flat.{rows}
 use Rattle.lt_model.specs.Matrices.{apply, IsSquare}

@@ -1,10 +1,9 @@
-use Rattle.std.proofs.Common.{arith, ◌≡◌, ◌^◌, ◌∙◌, sym, refl, subst, suc, ℕ, List, ℤ, length, ap}
+use Rattle.std.proofs.Common.{arith, ◌≡◌, ◌∙◌, sym, subst, List, ℤ, length, ap}
 use Rattle.std.specs.List.{Contains}
 use Rattle.std.specs.List.Sorted.{IsPermutation, IsSorted}
 use Rattle.std.proofs.lemmas.Bool.{false≢true}
 use Rattle.std.proofs.lemmas.List.Sorted.{length_permutation}
 use Rattle.lt_model.specs.Order.{number_list_cmp}
-use Rattle.lt_model.specs.Simplices.{AllOfDimension}
 use Rattle.lt_triang.proofs.Least.{all_permuted}
 use Rattle.lt_match.specs.Images.{HasClassOf}
 use Rattle.lt_match.proofs.Placed.{moved_to_origin, class_from_found, found_from_class, found_within}
@@ -36,8 +35,7 @@ returns-in-Some c =
 pub returns-in-None : goal.returns-in-None
 returns-in-None c =
     let sorted = c.sorted-ascending.result.items in
-    let told = rw c.as_slice.ensures.value at c.in-None.ensures.within in
-    (
+    let told = rw c.as_slice.ensures.value at c.in-None.ensures.within in (
       λ e. absurd (false≢true e),
       λ h. told.1 (found_within c.args.d c.args.t.now c.args.points.items sorted c.requires.target c.requires.count c.requires.dimension c.sorted-ascending.ensures.permutation c.sorted-ascending.ensures.sorted h),
     )

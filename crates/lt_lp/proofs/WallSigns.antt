@@ -11,7 +11,7 @@ use Rattle.lt_tableau.specs.Numbers.{sum_below, filled}
 use Rattle.lt_tableau.specs.System.{system_of, counted, normal_column, turned_column, plain_column, unit_column}
 use Rattle.lt_tableau.specs.Table.{Table, IsTableau, count_of, units_of}
 use Rattle.lt_tableau.specs.Numbers.{column_at}
-use Rattle.lt_lp.specs.Rule.{objective_of, gain_of}
+use Rattle.lt_lp.specs.Rule.{objective_of, gain_of, listed}
 use Rattle.lt_model.proofs.Integers.{mul_zero_z, add_zero_z}
 use Rattle.lt_model.proofs.Ring.{ring, ring_by, var, num, ◌⊕◌, ◌⊗◌}
 use Rattle.lt_tableau.proofs.Sums.{lookup_scale}
@@ -23,11 +23,6 @@ use Rattle.lt_tableau.proofs.Starts.{length-system}
 use Rattle.lt_tableau.proofs.Kept.{length-counted}
 use Rattle.std.proofs.Math.Seq.{get_or-append_seam}
 use Rattle.lt_lp.proofs.Signs.{gain_law, objective_last, pairing, wall_others}
-
--- y 0, .. , m numbers
-abbrev pub listed : ℕ → (ℕ → ℤ) → List ℤ
-listed zero y = []
-listed (suc m) y = y zero ∷ listed m (λ (q : ℕ). y (suc q))
 
 pub dot_listed : (m : ℕ) (y : ℕ → ℤ) (x : List ℤ) → dot (listed m y) x ≡ sum_below m (λ (q : ℕ). y q *ℤ lookup x q)
 dot_listed zero y x = refl
@@ -65,7 +60,7 @@ wall_own t m p x w r l sp sq gp gq =
     omega (arith, ints)
 
 -- ---- which column is which normal
-at_normals : (xs cs : List (List ℤ)) (c : ℕ) → c < length xs → column_at (map normal_column xs ++ cs) c ≡ normal_column (column_at xs c)
+pub at_normals : (xs cs : List (List ℤ)) (c : ℕ) → c < length xs → column_at (map normal_column xs ++ cs) c ≡ normal_column (column_at xs c)
 at_normals [] cs c h = absurd (omega arith)
 at_normals (x ∷ xs) cs zero h = refl
 at_normals (x ∷ xs) cs (suc c) h = at_normals xs cs c (omega arith)

@@ -1,0 +1,72 @@
+//! Sums over the rows of a tableau whose basic column is a unit column: the objective and the reduced costs.
+
+ghost use Rattle.std.specs.Prelude.{◌≡◌, ◌<◌, ◌≤◌, ◌-◌, ◌+◌, ◌*◌, ◌^◌, ℕ, length, nat_abs};
+ghost use Rattle.lt_model.specs.Padded.{lookup};
+ghost use Rattle.lt_tableau.specs.Table.{units_of};
+ghost use Rattle.lt_lp.specs.Rule.{objective_of, gain_of};
+
+use lt_tableau::Tableau;
+
+/// The place of the first unit column.
+pub fn first_unit(t: &Tableau) -> usize
+    ensures { result ≡ units_of t.now }
+{
+    t.columns() - t.rows()
+}
+
+/// The sum of the unit variables, over the denominator.
+pub fn objective(t: &Tableau) -> i128
+    ensures { result ≡ objective_of t.now }
+{
+    let first = first_unit(t);
+    let mut sum: i128 = 0;
+    for row in 0..t.rows() {
+        if t.basic(row) >= first {
+            sum += t.right(row);
+        }
+    }
+    sum
+}
+
+/// The sum of the unit column's numbers in the rows with a unit variable.
+fn unit_sum(t: &Tableau, unit: usize) -> i128
+    requires { unit < t.now.rows }
+    ensures value { result ≡ gain_of t.now (units_of t.now + unit) }
+    ensures small { nat_abs result ≤ 22 * 2 ^ 56 }
+{
+    let first = first_unit(t);
+    let mut sum: i128 = 0;
+    for row in 0..t.rows() {
+        if t.basic(row) >= first {
+            sum += t.unit(row, unit);
+        }
+    }
+    sum
+}
+
+/// The sums of all unit columns.
+pub fn unit_sums(t: &Tableau) -> [i128; 22]
+    ensures values { (q : ℕ) → q < t.now.rows → lookup result q ≡ gain_of t.now (units_of t.now + q) }
+    ensures small { (q : ℕ) → nat_abs (lookup result q) ≤ 22 * 2 ^ 56 }
+{
+    let mut sums = [0i128; 22];
+    for unit in 0..t.rows() {
+        sums[unit] = unit_sum(t, unit);
+    }
+    sums
+}
+
+/// The sum of the column's numbers in the rows with a unit variable: the reduced cost with its sign changed. By the rows' law it is
+/// the pairing of the column of the system with the sums of the unit columns.
+pub fn gain(t: &Tableau, sums: &[i128; 22], column: usize) -> i128
+    requires inside { column < length t.now.system - 1 }
+    requires values { (q : ℕ) → q < t.now.rows → lookup sums.now q ≡ gain_of t.now (units_of t.now + q) }
+    requires small { (q : ℕ) → nat_abs (lookup sums.now q) ≤ 22 * 2 ^ 56 }
+    ensures { result ≡ gain_of t.now column }
+{
+    let mut sum: i128 = 0;
+    for q in 0..t.rows() {
+        sum += sums[q] * t.number(q, column);
+    }
+    sum
+}
