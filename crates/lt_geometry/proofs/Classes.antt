@@ -15,6 +15,13 @@ first_of_translate : (p : List ℤ) (vs : List (List ℤ)) → 0 < length vs →
 first_of_translate p [] h = absurd (omega arith)
 first_of_translate p (v ∷ vs) h = refl
 
+-- a class and its shift are those of the translate
+pub same_translate : (d : ℕ) (s s' : List (List ℤ)) (p p' : List ℤ) → IsClass d s → IsClass d s' → length p ≡ d → length p' ≡ d → translate p s ≡ translate p' s' → (s ≡ s') × (p ≡ p')
+same_translate d s s' p p' c c' l l' up =
+    let first : (r : List (List ℤ)) (q : List ℤ) → IsClass d r → length q ≡ d → get_or (translate q r) 0 [] ≡ q = λ r q k m. first_of_translate q r (omega (arith, k.simplex.count)) ∙ ap (λ (v : List ℤ). plus v q) k.first ∙ zeros-plus d q m in
+    let shifts : p ≡ p' = sym (first s p c l) ∙ ap (λ (r : List (List ℤ)). get_or r 0 []) up ∙ first s' p' c' l' in
+    (sym (translate-back d s p c.simplex.points l) ∙ ap₂ (λ (q : List ℤ) (r : List (List ℤ)). translate (scale (negsuc 0) q) r) shifts up ∙ translate-back d s' p' c'.simplex.points l', shifts)
+
 -- a set of points has one class
 pub one_class : (d : ℕ) (ps s s' : List (List ℤ)) → IsClassOf d ps s → IsClassOf d ps s' → s ≡ s'
 one_class d ps s s' h k =
@@ -24,9 +31,7 @@ one_class d ps s s' h k =
     same_members number_list_cmp number_list_cmp_total (translate h.shift s) (translate k.shift s') (ascending_translate d h.shift s h.dimension ch.simplex.points ch.ascending) (ascending_translate d k.shift s' k.dimension ck.simplex.points ck.ascending)
     (λ x. (λ c. (k.same x).0 ((h.same x).1 c), λ c. (h.same x).0 ((k.same x).1 c)))
     in
-    let first : (r : List (List ℤ)) (p : List ℤ) → IsClass d r → length p ≡ d → get_or (translate p r) 0 [] ≡ p = λ r p c l. first_of_translate p r (omega (arith, c.simplex.count)) ∙ ap (λ (v : List ℤ). plus v p) c.first ∙ zeros-plus d p l in
-    let shifts : h.shift ≡ k.shift = sym (first s h.shift ch h.dimension) ∙ ap (λ (l : List (List ℤ)). get_or l 0 []) up ∙ first s' k.shift ck k.dimension in
-    sym (translate-back d s h.shift ch.simplex.points h.dimension) ∙ ap₂ (λ (p : List ℤ) (r : List (List ℤ)). translate (scale (negsuc 0) p) r) shifts up ∙ translate-back d s' k.shift ck.simplex.points k.dimension
+    (same_translate d s s' h.shift k.shift ch ck h.dimension k.dimension up).0
 
 -- points that are the translate of a class, in any order
 pub class_of_same : (d : ℕ) (ps s : List (List ℤ)) (p : List ℤ) → length p ≡ d → IsClass d s → ((x : List ℤ) → Contains ps x ↔ Contains (translate p s) x) → IsClassOf d ps s

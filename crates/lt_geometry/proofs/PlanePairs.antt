@@ -18,7 +18,7 @@ use Rattle.lt_geometry.proofs.WalkEnds.{scale-one}
 use Rattle.lt_geometry.proofs.Unique.{one_neighbour, weighted}
 use Rattle.lt_geometry.proofs.Primitive.{same_primitive, primitive_from_one}
 use Rattle.lt_geometry.proofs.Neighbours.{principal_paving}
-use Rattle.lt_geometry.proofs.PrincipalNormals.{normal_dot, length-normal}
+use Rattle.lt_geometry.proofs.Normals.{normal_dot, length-normal}
 use Rattle.lt_geometry.proofs.Plane.{left_is_class, right_is_class, has_left, has_right, plane_is_principal}
 
 -- facet i of the member s: the outer vertex w across it, its numbers b over the member, and the regulator n

@@ -1,20 +1,19 @@
 -- The regulators of the principal triangulation, and that each is a facet.
-use Rattle.std.proofs.Common.{◌≡◌, ◌≢◌, ℕ, zero, suc, ℤ, pos, negsuc, ◌+ℤ◌, ◌-ℤ◌, ◌*ℤ◌, ◌<ℤ◌, ◌<◌, ◌≤◌, refl, ap, ap₂, arith, sym, ◌∙◌, subst, List, [], ◌∷◌, length, length-append, map, get_or, ◌⊎◌, ◌↔◌, inl, inr}
+use Rattle.std.proofs.Common.{◌≡◌, ◌≢◌, ℕ, zero, suc, ℤ, pos, negsuc, ◌+ℤ◌, ◌-ℤ◌, ◌*ℤ◌, ◌<ℤ◌, ◌<◌, ◌≤◌, refl, ap, ap₂, arith, sym, ◌∙◌, subst, List, [], ◌∷◌, length, map, get_or, ◌⊎◌, ◌↔◌, inl, inr}
 use Rattle.std.proofs.lemmas.Int.{ints}
 use Rattle.std.specs.List.{Contains}
 use Rattle.lt_model.proofs.Integers.{mul_zero_z, zero_mul_z}
 use Rattle.lt_model.proofs.Ring.{ring, var, num, ◌⊖◌, ◌⊗◌}
 use Rattle.lt_model.proofs.Squares.{length-scale, length-plus}
-use Rattle.lt_model.proofs.Vectors.{dot-plus, dot-scale, dot_comm}
-use Rattle.lt_model.proofs.Excess.{dot-combine, same_from_dots, scale-dot}
-use Rattle.lt_model.proofs.Walk.{length-combine, length-map, number_at-map, length-without, number_at-plus, number_at-scale}
+use Rattle.lt_model.proofs.Vectors.{dot-scale, dot_comm}
+use Rattle.lt_model.proofs.Excess.{same_from_dots, scale-dot}
+use Rattle.lt_model.proofs.Walk.{length-map, number_at-map, length-without, number_at-plus, number_at-scale}
 use Rattle.lt_model.proofs.Opposite.{length-unit}
 use Rattle.lt_model.proofs.Expressions.{one_expression, total-plus, total-scale}
-use Rattle.lt_model.proofs.Dependent.{map-map_vectors, length-map_vectors}
 use Rattle.lt_model.proofs.Sets.{Contains-head, Contains-tail}
-use Rattle.lt_model.specs.Vectors.{plus, scale, dot, total, combine, unit, IsPrimitive}
-use Rattle.lt_model.specs.Forms.{squares, value, numbers_of_form}
-use Rattle.lt_model.specs.Simplices.{AllOfDimension, IsSimplex, IsExpression, excess}
+use Rattle.lt_model.specs.Vectors.{plus, scale, dot, total, unit, IsPrimitive}
+use Rattle.lt_model.specs.Forms.{value, numbers_of_form}
+use Rattle.lt_model.specs.Simplices.{IsSimplex, IsExpression, excess}
 use Rattle.lt_model.specs.Facets.{number_at, without, IsNeighbour}
 use Rattle.lt_model.specs.Walls.{excess_normal, IsPair, IsRegulator, IsFacet}
 use Rattle.lt_geometry.specs.Paving.{IsPaving}
@@ -26,34 +25,10 @@ use Rattle.lt_geometry.proofs.Closed.{three, three-dot, IsThird, third_expressio
 use Rattle.lt_geometry.proofs.Neighbours.{HasNeighbour, has_neighbour, first, middle, down_from, down_order, principal_paving}
 use Rattle.lt_geometry.proofs.Unique.{one_neighbour, weighted}
 use Rattle.lt_geometry.proofs.Primitive.{same_primitive, primitive_from_one}
+pub use Rattle.lt_geometry.proofs.Normals.{normal_dot, length-normal}
 use Rattle.lt_geometry.proofs.Products.{product_form, length-product, less_square, pair_at_less, own_at_less, pair_at, length-pair, length-own, pair_one, own_one}
 
--- ---- the excess as a linear function of the form
-
-pub normal_dot : (q : List ℤ) (vs : List (List ℤ)) (x : List ℤ) (c : ℤ) (b : List ℤ) → dot q (excess_normal vs x c b) ≡ excess q vs x c b
-normal_dot q vs x c b =
-    let e1 = dot-plus q (scale c (squares x)) (scale (negsuc 0) (combine b (map squares vs))) in
-    let e2 = dot-scale q c (squares x) in
-    let e3 = dot-scale q (negsuc 0) (combine b (map squares vs)) in
-    let e4 : dot q (combine b (map squares vs)) ≡ dot b (map (value q) vs) = dot-combine q b (map squares vs) ∙ ap (dot b) (map-map_vectors (dot q) squares vs) in
-    omega (arith, ints, e1, e2, e3, e4)
-
-pub length-squares : (d : ℕ) (x : List ℤ) → length x ≡ d → length (squares x) ≡ numbers_of_form d
-length-squares zero [] l = refl
-length-squares zero (a ∷ x) l = absurd (omega arith)
-length-squares (suc d) [] l = absurd (omega arith)
-length-squares (suc d) (a ∷ x) l = omega (arith, length-append (scale a x) (squares x), length-scale a x, length-squares d x (omega arith))
-
-all_squares : (d : ℕ) (vs : List (List ℤ)) → AllOfDimension d vs → AllOfDimension (numbers_of_form d) (map squares vs)
-all_squares d [] h = tt
-all_squares d (v ∷ vs) h = (length-squares d v h.0, all_squares d vs h.1)
-
-pub length-normal : (d : ℕ) (vs : List (List ℤ)) (x : List ℤ) (c : ℤ) (b : List ℤ) → AllOfDimension d vs → 0 < length vs → length x ≡ d → length b ≡ length vs → length (excess_normal vs x c b) ≡ numbers_of_form d
-length-normal d vs x c b all some lx lb =
-    let l1 : length (scale c (squares x)) ≡ numbers_of_form d = length-scale c (squares x) ∙ length-squares d x lx in
-    let lm = length-map_vectors squares vs in
-    let l2 : length (scale (negsuc 0) (combine b (map squares vs))) ≡ numbers_of_form d = length-scale (negsuc 0) (combine b (map squares vs)) ∙ length-combine (numbers_of_form d) b (map squares vs) (all_squares d vs all) (lb ∙ sym lm) (omega (arith, lm)) in
-    length-plus (scale c (squares x)) (scale (negsuc 0) (combine b (map squares vs))) (l1 ∙ sym l2) ∙ l1
+-- ---- the stated normals
 
 pub length-stated : (d : ℕ) (n : List ℤ) → IsPrincipalNormal d n → length n ≡ numbers_of_form d
 length-stated d n (inl h) = ap length h.4 ∙ length-pair d h.0 h.1

@@ -69,7 +69,7 @@ one_or_other (v ∷ vs) (suc j) x c =
       | inr r ↦ elim (one_or_other vs j x r) [ inl e ↦ inl e | inr s ↦ inr (Contains-tail v (without j vs) x s) ]
     ]
 
-any_default : (vs : List (List ℤ)) (j : ℕ) (x y : List ℤ) → j < length vs → get_or vs j x ≡ get_or vs j y
+pub any_default : (vs : List (List ℤ)) (j : ℕ) (x y : List ℤ) → j < length vs → get_or vs j x ≡ get_or vs j y
 any_default [] j x y h = absurd (omega arith)
 any_default (v ∷ vs) zero x y h = refl
 any_default (v ∷ vs) (suc j) x y h = any_default vs j x y (omega arith)

@@ -3,3 +3,8 @@ pub mod Laws
 pub mod FirstLaws
 pub mod Principal
 pub mod Plane
+pub mod Regulators
+pub mod Walls
+pub mod Flips
+pub mod Exchanges
+pub mod Carrying

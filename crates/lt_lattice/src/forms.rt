@@ -84,6 +84,13 @@ fn products(x: &[i32]) -> ArrayVec<i128, 21>
     all
 }
 
+/// The products `x_i x_j` with `i <= j` of the coordinates, in the order of a form's numbers.
+pub fn squares(x: &Point) -> ArrayVec<i128, 21>
+    ensures { result.items ≡ form.squares x.now }
+{
+    products(x.coords())
+}
+
 /// The value Q[x] of the form at the point. Each number of the form is below 2^80 in absolute value.
 pub fn value(q: &Form, x: &Point) -> i128
     requires same { length q.now ≡ numbers_of_form (length x.now) }

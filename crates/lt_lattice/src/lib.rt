@@ -7,7 +7,7 @@ mod normals;
 mod numbers;
 mod points;
 
-pub use forms::{Form, value};
+pub use forms::{Form, squares, value};
 pub use matrices::{Matrix, TooLarge, apply, inverse_of, times};
 pub use normals::{Normal, pair};
 pub use points::Point;

@@ -1,8 +1,8 @@
-ghost use Rattle.std.specs.Prelude.{◌≡◌, ◌<◌, ◌++◌, [], ◌∷◌, pos, length};
+ghost use Rattle.std.specs.Prelude.{◌≡◌, ◌<◌, ◌≤◌, ◌++◌, [], ◌∷◌, pos, length, take, codes};
 ghost use Rattle.std.specs.Fmt.{signed_decimal};
 ghost use Rattle.lt_io.specs.Causes.{HasCause};
 ghost use Rattle.lt_io.specs.Bytes.{Wrote};
-ghost use Rattle.lt_lines.specs.Lines.{spaced, behind_spaces, line, numbers_line};
+ghost use Rattle.lt_lines.specs.Lines.{spaced, behind_spaces, line, numbers_line, right_in};
 
 use itoa::Buffer;
 use lt_io::{Failed, Sink, write_all};
@@ -72,4 +72,28 @@ pub fn write_numbers<K: Sink>(sink: &mut K, numbers: &[i128]) -> Result<(), Fail
         [] => write_all(sink, b"\n"),
         [first, rest @ ..] => write_started(sink, first, rest),
     }
+}
+
+/// The blanks before a number that stands right in its column.
+const BLANKS: &[u8] = b"                ";
+
+/// Writes so many blanks, at most 16.
+fn write_blanks<K: Sink>(sink: &mut K, count: usize) -> Result<(), Failed>
+    requires { count ≤ 16 }
+    ensures bytes { Wrote (K.held sink.old) (K.held sink.new) result (take count (codes "                ")) }
+    ensures cause { HasCause (K.faults sink.old) (K.faults sink.new) result }
+{
+    write_all(sink, &BLANKS[..count])
+}
+
+/// Writes a number so that it stands right in `width` places, at most 16; a wider one is written whole.
+pub fn write_right<K: Sink>(sink: &mut K, width: usize, number: u64) -> Result<(), Failed>
+    requires { width ≤ 16 }
+    ensures bytes { Wrote (K.held sink.old) (K.held sink.new) result (right_in width number) }
+    ensures cause { HasCause (K.faults sink.old) (K.faults sink.new) result }
+{
+    let mut buffer = Buffer::new();
+    let text = buffer.format(number);
+    write_blanks(sink, width.saturating_sub(text.len()))?;
+    write_all(sink, text.as_bytes())
 }

@@ -15,4 +15,5 @@ pub mod Mixes
 pub mod Combined
 pub mod TermLoops
 pub mod Decided
+pub mod FacetRows
 pub mod Checked

@@ -3,4 +3,5 @@ pub mod Verdicts
 pub mod Reduced
 pub mod Terms
 pub mod Positive
+pub mod Facets
 pub mod Checks

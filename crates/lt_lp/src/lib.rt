@@ -3,6 +3,7 @@
 
 mod checks;
 mod combinations;
+mod cones;
 mod deciding;
 mod primitives;
 mod rule;

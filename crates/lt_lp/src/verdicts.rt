@@ -1,9 +1,5 @@
 //! Verdicts, rows and cones.
 
-ghost use Rattle.std.specs.Prelude.{◌≡◌, ◌<◌, length, get_or};
-ghost use Rattle.lt_model.specs.Cones.{Row as RowModel};
-ghost use Rattle.lt_lp.specs.Verdicts.{is_wall, wall_rows};
-
 use arrayvec::ArrayVec;
 use lt_lattice::{Form, Normal};
 use std::marker::Model;
@@ -67,46 +63,4 @@ impl Model for Cone {
     ghost Value = { ConeModel };
 
     ghost view = { λ c. record { rows = c.rows.items; form = c.form } };
-}
-
-/// Whether the row has a wall.
-fn has_wall(row: &Row) -> bool
-    ensures { result ≡ is_wall row.now.verdict }
-{
-    match &row.verdict {
-        Verdict::Wall(_) => true,
-        Verdict::Combination { .. } => false,
-    }
-}
-
-impl Cone {
-    /// The number of rows with a wall.
-    pub fn facets(&self) -> usize
-        ensures { result ≡ length (wall_rows self.now.rows) }
-    {
-        let mut count: usize = 0;
-        for j in 0..self.rows.len() {
-            if has_wall(&self.rows[j]) {
-                count += 1;
-            }
-        }
-        count
-    }
-
-    /// The i-th of the rows with a wall.
-    pub fn facet(&self, i: usize) -> &Row
-        requires { i < length (wall_rows self.now.rows) }
-        ensures { (other : RowModel) → result.now ≡ get_or (wall_rows self.now.rows) i other }
-    {
-        let mut left = i;
-        for j in 0..self.rows.len() {
-            if has_wall(&self.rows[j]) {
-                if left == 0 {
-                    return &self.rows[j];
-                }
-                left -= 1;
-            }
-        }
-        unreachable!()
-    }
 }

@@ -14,3 +14,6 @@ pub mod Reached
 pub mod Limits
 pub mod Cones
 pub mod Exterior
+pub mod Atlases
+pub mod RightAtlases
+pub mod Logs

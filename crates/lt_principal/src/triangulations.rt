@@ -3,7 +3,8 @@
 ghost use Rattle.std.specs.Prelude.{◌≡◌, ◌≤◌, ◌<◌, ◌+◌, suc, length, get_or, [], IfOk};
 ghost use Rattle.lt_model.specs.Simplices.{IsClass};
 ghost use Rattle.lt_model.specs.Limits.{span_limit};
-ghost use Rattle.lt_model.specs.Principal.{IsPrincipal};
+ghost use Rattle.lt_model.specs.Principal.{IsPrincipal, principal_numbers};
+ghost use Rattle.lt_model.specs.Triangulations.{IsDelaunay};
 ghost use Rattle.lt_triang.specs.Bounds.{AreNear};
 ghost use Rattle.lt_triang.specs.Kept.{AreClasses};
 ghost use Rattle.lt_principal.specs.Paths.{points_of};
@@ -53,11 +54,12 @@ fn classes_with(alloc: Global, d: usize, all: &[ArrayVec<Point, 7>]) -> Result<V
 }
 
 /// The principal triangulation of dimension `d`, 2 to 6: for each order of the coordinates the class of the path from 0
-/// to (1, .., 1) that raises them in this order.
+/// to (1, .., 1) that raises them in this order. It is the Delaunay triangulation of the principal form.
 pub fn principal(alloc: Global, d: u8) -> Result<Triangulation, Memory>
     requires low { 2 ≤ d }
     requires high { d ≤ 6 }
-    ensures { IfOk result (λ t. IsPrincipal d t) }
+    ensures principal { IfOk result (λ t. IsPrincipal d t) }
+    ensures delaunay { IfOk result (λ t. IsDelaunay d (principal_numbers d) t) }
 {
     let points = principal_points(alloc, d)?;
     let classes = classes_with(alloc, usize::from(d), points.as_slice())?;

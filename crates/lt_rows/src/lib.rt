@@ -9,6 +9,8 @@ mod lattice;
 #[cfg(test)]
 mod numbers;
 #[cfg(test)]
+mod regulators;
+#[cfg(test)]
 mod systems;
 #[cfg(test)]
 mod tableau;

@@ -58,6 +58,7 @@ fn a_first_pivot(rt: HostRuntime) {
             let mut t = tableau;
             assert_eq!(rt; t.rows(), 4);
             assert_eq!(rt; t.columns(), 8);
+            assert!(rt; t.entry(1, 0) > 0);
             t.pivot(1, 0);
             assert_eq!(rt; t.den(), 1);
             assert_eq!(rt; t.basic(1), 0);

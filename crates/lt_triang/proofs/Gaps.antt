@@ -20,9 +20,12 @@ limit_of : (b : Bool) → cond b 400 100 ≤ 400
 limit_of true = omega arith
 limit_of false = omega arith
 
+pub small_limit : (d : ℕ) → span_limit d ≤ 400
+small_limit d = limit_of (nat_le d 5)
+
 -- points of a class that are moved by twice the limit stay points
 pub twice_limit : (d : ℕ) → span_limit d + span_limit d ≤ 2 ^ 20
-twice_limit d = let h : span_limit d ≤ 400 = limit_of (nat_le d 5) in omega (arith, h)
+twice_limit d = omega (arith, small_limit d)
 
 pub double_limit : (d : ℕ) → 2 * span_limit d ≡ span_limit d + span_limit d
 double_limit d = omega arith

@@ -59,7 +59,7 @@ class_from_sorted d ps (v ∷ vs) l all free h up =
 
 -- ---- how far the vertices lie apart
 
-minus-plus : (d : ℕ) (x y p : List ℤ) → length x ≡ d → length y ≡ d → length p ≡ d → minus (plus x p) (plus y p) ≡ minus x y
+pub minus-plus : (d : ℕ) (x y p : List ℤ) → length x ≡ d → length y ≡ d → length p ≡ d → minus (plus x p) (plus y p) ≡ minus x y
 minus-plus zero [] [] [] lx ly lp = refl
 minus-plus zero (a ∷ x) y p lx ly lp = absurd (omega arith)
 minus-plus zero [] (b ∷ y) p lx ly lp = absurd (omega arith)

@@ -11,3 +11,5 @@ pub mod Parallel
 pub mod Gaps
 pub mod Made
 pub mod Distinct
+pub mod Expressed
+pub mod SomeForm

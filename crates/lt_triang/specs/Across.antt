@@ -4,7 +4,7 @@ use Rattle.std.specs.List.{Contains}
 use Rattle.std.specs.List.Sorted.{IsStrictlySortedBy}
 use Rattle.lt_model.specs.Order.{simplex_cmp}
 use Rattle.lt_model.specs.Simplices.{AllOfDimension, translate}
-use Rattle.lt_model.specs.Facets.{without, IsBeyond}
+use Rattle.lt_model.specs.Facets.{without, IsBeyond, IsNeighbour}
 
 -- d + 1 points of d coordinates, and a place among them
 pub record HasFacet (d : ℕ) (s : List (List ℤ)) (i : ℕ) : Type 0 where
@@ -63,3 +63,11 @@ pub record IsOpenAnswer (d : ℕ) (given : List (List (List ℤ))) (n i : ℕ) :
   pub ascending : IsStrictlySortedBy simplex_cmp t
   pub members : (s : List (List ℤ)) → Contains t s ↔ Contains given s
   pub first : IsFirstOpen d t n i
+
+-- w is the vertex of the neighbour of s at facet i that lies outside s
+pub record IsOuterVertex (d : ℕ) (t : List (List (List ℤ))) (s : List (List ℤ)) (i : ℕ) (w : List ℤ) : Type 0 where
+  pub next : List (List ℤ)
+  pub shift : List ℤ
+  pub outer : ℕ
+  pub neighbour : IsNeighbour d t s i next shift outer
+  pub vertex : w ≡ get_or (translate shift next) outer []

@@ -1,6 +1,6 @@
 //! Affine dependencies of points from the linear ones of their differences.
 
-ghost use Rattle.std.specs.Prelude.{◌≡◌, ◌≢◌, ◌≤◌, ◌^◌, ◌⊎◌, ◌<ℤ◌, neg_ℤ, ℤ, pos, negsuc, ◌∷◌, length, nat_abs};
+ghost use Rattle.std.specs.Prelude.{◌≡◌, ◌≢◌, ◌≤◌, ◌*◌, ◌^◌, ◌⊎◌, ◌<ℤ◌, neg_ℤ, ℤ, pos, negsuc, ◌∷◌, length, nat_abs};
 ghost use Rattle.std.specs.List.{All};
 ghost use Rattle.lt_model.specs.Vectors.{scale, total};
 ghost use Rattle.lt_model.specs.Cones.{AreBelow};
@@ -15,7 +15,7 @@ pub fn total_of(terms: &[i128]) -> i128
     requires few { length terms.now ≤ 6 }
     requires below { AreBelow answer_limit terms.now }
     ensures value { result ≡ total terms.now }
-    ensures small { nat_abs result ≤ 2 ^ 63 }
+    ensures small { nat_abs result ≤ 6 * 2 ^ 56 }
 {
     let mut sum: i128 = 0;
     for i in 0..terms.len() {
@@ -25,7 +25,7 @@ pub fn total_of(terms: &[i128]) -> i128
 }
 
 /// The list with a number before it.
-fn with_first(first: i128, rest: &[i128]) -> ArrayVec<i128, 7>
+pub fn with_first(first: i128, rest: &[i128]) -> ArrayVec<i128, 7>
     requires { length rest.now ≤ 6 }
     ensures { result.items ≡ first ∷ rest.now }
 {

@@ -3,6 +3,7 @@
 
 mod classes;
 mod dependencies;
+mod expressions;
 mod neighbours;
 mod sides;
 mod spans;
@@ -10,6 +11,7 @@ mod triangulations;
 mod vertices;
 
 pub use classes::{Class, Flat};
+pub use expressions::Expression;
 pub use neighbours::Neighbour;
-pub use spans::{are_near, span_limit};
+pub use spans::{are_near, span_limit, span_of};
 pub use triangulations::{TriangError, Triangulation};

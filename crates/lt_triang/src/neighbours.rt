@@ -87,7 +87,7 @@ fn shift_of(d: usize, s: &[Point], i: usize, next: &[Point], j: usize) -> Point
 }
 
 /// The vertex moved by the shift.
-fn vertex_moved(next: &[Point], j: usize, by: &Point) -> Point
+pub fn vertex_moved(next: &[Point], j: usize, by: &Point) -> Point
     requires place { j < length next.now }
     requires dimension { AllOfDimension (length by.now) next.now }
     requires within { All (IsWithin (2 ^ 20)) (plus (get_or next.now j []) by.now) }

@@ -1,17 +1,18 @@
 //! Triangulations: classes that are closed under facets.
 
-ghost use Rattle.std.specs.Prelude.{◌≡◌, ◌<◌, ◌-◌, suc, ℕ, ℤ, pos, List, [], length, get_or, IfOk, MatchOption, ◌↔◌};
-ghost use Rattle.std.specs.List.{Contains};
+ghost use Rattle.std.specs.Prelude.{◌≡◌, ◌<◌, ◌-◌, ◌*◌, suc, ℕ, ℤ, pos, List, [], length, get_or, IfOk, MatchOption, ◌↔◌};
+ghost use Rattle.std.specs.List.{All, Contains};
 ghost use Rattle.std.specs.List.Sorted.{IsStrictlySortedBy};
-ghost use Rattle.lt_model.specs.Limits.{span};
+ghost use Rattle.lt_model.specs.Limits.{span, span_limit};
 ghost use Rattle.lt_model.specs.Order.{simplex_cmp};
 ghost use Rattle.lt_model.specs.Simplices.{IsClass};
-ghost use Rattle.lt_triang.specs.Across.{HasAcross, IsFirstAcross, IsFirstOpenOf, IsFirstOpen, IsOpenAnswer};
-ghost use Rattle.lt_triang.specs.Kept.{IsTriangulation, AreClasses};
+ghost use Rattle.lt_triang.specs.Across.{HasAcross, IsFirstAcross, IsFirstOpenOf, IsFirstOpen, IsOpenAnswer, IsOuterVertex};
+ghost use Rattle.lt_triang.specs.Kept.{IsTriangulation, AreClasses, dimension_of};
+ghost use Rattle.lt_lattice.specs.Ranges.{IsWithin};
 ghost use Rattle.lt_triang.specs.declared.triangulations.TriangError.TheVariants.{OpenFacet};
 
 use crate::classes::Class;
-use crate::neighbours::{Neighbour, first_across, member};
+use crate::neighbours::{Neighbour, first_across, member, vertex_moved};
 use crate::spans::span_of;
 use lt_lattice::Point;
 use lt_model::Memory;
@@ -168,6 +169,23 @@ impl Triangulation {
             Some(found) => found,
             None => unreachable!(),
         }
+    }
+
+    /// The vertex of the neighbour at facet `facet` of the class at place `class` that lies outside the class.
+    pub fn outer_vertex(&self, class: usize, facet: usize) -> Point
+        requires class { class < length self.now }
+        requires facet { facet < length (get_or self.now class []) }
+        ensures vertex { IsOuterVertex (dimension_of self.now) self.now (get_or self.now class []) facet result }
+        ensures dimension { length result ≡ dimension_of self.now }
+        ensures near { All (IsWithin (2 * span_limit (dimension_of self.now))) result }
+    {
+        let _dimension = self.dimension();
+        let found = self.neighbour(class, facet);
+        vertex_moved(
+            self.class(found.class).vertices(),
+            found.vertex,
+            &found.shift,
+        )
     }
 
     /// A copy, or Memory where memory was refused.

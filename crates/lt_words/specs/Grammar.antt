@@ -1,8 +1,11 @@
 -- The words of the command line.
-use Rattle.std.specs.Prelude.{◌≡◌, ℕ, ◌+◌, ◌<◌, ◌≤◌, List, [], ◌∷◌, ◌++◌, length, take, map, codes}
+use Rattle.std.specs.Prelude.{◌≡◌, ℕ, ◌+◌, ◌<◌, ◌≤◌, ◌⊎◌, List, [], ◌∷◌, ◌++◌, length, take, map, codes}
 use Rattle.std.specs.Fmt.{decimal}
+use Rattle.lt_model.specs.Limits.{step_limit}
 use Rattle.lt_words.specs.declared.words.Command.{Command}
-use Rattle.lt_words.specs.declared.words.Command.TheVariants.{Principal}
+use Rattle.lt_words.specs.declared.words.Command.TheVariants.{Principal, Summary, Run}
+use Rattle.lt_words.specs.declared.words.Kind.{Kind}
+use Rattle.lt_words.specs.declared.words.Kind.TheVariants as kind
 use Rattle.lt_words.specs.declared.words.WordsError.{WordsError}
 use Rattle.lt_words.specs.declared.words.WordsError.TheVariants.{Fault}
 use denote.Ref.{Bor}
@@ -18,18 +21,23 @@ IsDimension d = (2 ≤ d) × (d ≤ 5)
 -- a command's numbers are in the ranges of its words
 abbrev pub InRange : Command → Type 0
 InRange (Principal d) = IsDimension d
+InRange (Summary d) = IsDimension d
+InRange (Run d steps) = IsDimension d × (steps ≤ step_limit d)
 
--- the words of a command
-abbrev pub words_of : Command → List (List ℕ)
-words_of (Principal d) = codes "principal" ∷ decimal d ∷ []
+-- the words are a spelling of the command; the step limit may be left out where it is the greatest
+abbrev pub Spells : Command → List (List ℕ) → Type 0
+Spells (Principal d) ws = ws ≡ codes "principal" ∷ decimal d ∷ []
+Spells (Summary d) ws = ws ≡ codes "summary" ∷ decimal d ∷ []
+Spells (Run d steps) ws =
+    ((steps ≡ step_limit d) × (ws ≡ codes "run" ∷ decimal d ∷ [])) ⊎ (ws ≡ codes "run" ∷ decimal d ∷ codes "--steps" ∷ decimal steps ∷ [])
 
 -- the words are those of a command
 abbrev pub IsAccepted : List (List ℕ) → Type 0
-IsAccepted ws = (c : Command) × InRange c × (ws ≡ words_of c)
+IsAccepted ws = (c : Command) × InRange c × Spells c ws
 
 -- some accepted list begins with these words
 abbrev pub Begins : List (List ℕ) → Type 0
-Begins ws = (c : Command) × (rest : List (List ℕ)) × InRange c × (ws ++ rest ≡ words_of c)
+Begins ws = (c : Command) × (rest : List (List ℕ)) × InRange c × Spells c (ws ++ rest)
 
 -- The words are outside the grammar, and the place is that of the first word at which no accepted list begins
 -- with the words so far, or the number of words where only something is missing.
@@ -42,3 +50,13 @@ pub record FaultAt (ws : List (List ℕ)) (place : ℕ) : Type 0 where
 -- the place that a refusal names
 abbrev pub place_of : WordsError → ℕ
 place_of (Fault place) = place
+
+-- the word that tells the kind of a command
+abbrev pub kind_word : Kind → List ℕ
+kind_word kind.Principal = codes "principal"
+kind_word kind.Summary = codes "summary"
+kind_word kind.Run = codes "run"
+
+-- the words begin with these
+abbrev pub HasFront : List (List ℕ) → List (List ℕ) → Type 0
+HasFront ws front = (rest : List (List ℕ)) × (ws ≡ front ++ rest)

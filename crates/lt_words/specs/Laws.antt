@@ -1,7 +1,7 @@
 -- Laws on the words of commands.
 use Rattle.std.specs.Prelude.{◌≡◌, ℕ, List}
 use Rattle.lt_words.specs.declared.words.Command.{Command}
-use Rattle.lt_words.specs.Grammar.{InRange, words_of, IsAccepted, FaultAt}
+use Rattle.lt_words.specs.Grammar.{InRange, Spells, IsAccepted, FaultAt}
 
 -- words have a fault at one place alone
 abbrev pub EveryFaultHasOnePlace : Type 0
@@ -11,6 +11,6 @@ EveryFaultHasOnePlace = (ws : List (List ℕ)) (p q : ℕ) → FaultAt ws p → 
 abbrev pub NoCommandHasAFault : Type 0
 NoCommandHasAFault = (ws : List (List ℕ)) (p : ℕ) → IsAccepted ws → FaultAt ws p → ⊥
 
--- two commands have different words
-abbrev pub EveryCommandHasItsWords : Type 0
-EveryCommandHasItsWords = (c c' : Command) → InRange c → InRange c' → words_of c ≡ words_of c' → c ≡ c'
+-- words spell one command at most
+abbrev pub WordsSpellOneCommand : Type 0
+WordsSpellOneCommand = (c c' : Command) (ws : List (List ℕ)) → InRange c → InRange c' → Spells c ws → Spells c' ws → c ≡ c'

@@ -1,15 +1,24 @@
-ghost use Rattle.std.specs.Prelude.{◌≡◌, ◌<◌, [], List, ℕ, length, get_or, codes, IsTrue, ◌↔◌, IfOk, IfErr, IfSome, IfNone};
+ghost use Rattle.std.specs.Prelude.{◌≡◌, ◌<◌, ◌≤◌, [], ◌∷◌, List, ℕ, length, get_or, codes, IsTrue, ◌↔◌, IfOk, IfErr, IfSome, IfNone};
 ghost use Rattle.std.specs.Fmt.{decimal};
-ghost use Rattle.lt_words.specs.Grammar.{texts, IsDimension, InRange, words_of, FaultAt, place_of};
-ghost use Rattle.lt_words.specs.Laws.{EveryFaultHasOnePlace, NoCommandHasAFault, EveryCommandHasItsWords};
+ghost use Rattle.lt_words.specs.Grammar.{texts, IsDimension, InRange, Spells, FaultAt, HasFront, place_of, kind_word};
+ghost use Rattle.lt_words.specs.Laws.{EveryFaultHasOnePlace, NoCommandHasAFault, WordsSpellOneCommand};
 
+use itoa::Buffer;
 use thiserror::Error;
+
+/// The greatest step limit, which a run has where its words give none.
+pub const MOST_STEPS: u64 = 100_000;
 
 /// What the program is asked to do.
 #[derive(Clone, Copy, Debug, PartialEq, Eq, Drop)]
 pub enum Command {
     /// `principal D`: print the principal type of dimension `d`, 2 to 5.
     Principal { d: u8 },
+    /// `summary D`: print the counts of the starting atlas of dimension `d`, 2 to 5.
+    Summary { d: u8 },
+    /// `run D` or `run D --steps B`: enumerate the types of dimension `d`, 2 to 5, through the first `steps` positions of the
+    /// queue, at most 100,000, and write the atlas.
+    Run { d: u8, steps: u64 },
 }
 
 /// Why words are no command.
@@ -21,6 +30,14 @@ pub enum WordsError {
     Fault { place: u32 },
 }
 
+/// The kind of a command, which its first word tells.
+#[derive(Clone, Copy, Drop)]
+enum Kind {
+    Principal,
+    Summary,
+    Run,
+}
+
 fn word_at<'a>(words: &[&'a str], i: usize) -> &'a str
     requires { i < length words.now }
     ensures { result.now ≡ get_or (texts words.now) i [] }
@@ -28,10 +45,26 @@ fn word_at<'a>(words: &[&'a str], i: usize) -> &'a str
     words[i]
 }
 
-fn is_principal(word: &str) -> bool
-    ensures { IsTrue result ↔ (word.now ≡ codes "principal") }
+/// The kind that a word tells.
+fn kind_of(word: &str) -> Option<Kind>
+    ensures found { IfSome result (λ kind. word.now ≡ kind_word kind) }
+    ensures none { IfNone result ((kind : Kind) → word.now ≡ kind_word kind → ⊥) }
 {
-    word == "principal"
+    if word == "principal" {
+        Some(Kind::Principal)
+    } else if word == "summary" {
+        Some(Kind::Summary)
+    } else if word == "run" {
+        Some(Kind::Run)
+    } else {
+        None
+    }
+}
+
+fn is_steps(word: &str) -> bool
+    ensures { IsTrue result ↔ (word.now ≡ codes "--steps") }
+{
+    word == "--steps"
 }
 
 /// The dimension that a word spells.
@@ -45,26 +78,83 @@ fn dimension_of(word: &str) -> Option<u8>
     }
 }
 
-/// The command that the words spell, which stand as behind the program's name, or the place of their first
-/// fault. It takes no memory.
-pub fn read_words(words: &[&str]) -> Result<Command, WordsError>
-    ensures command { IfOk result (λ c. InRange c × (texts words.now ≡ words_of c)) }
+/// Whether the word spells the number.
+fn is_spelling(word: &str, number: u64) -> bool
+    ensures { IsTrue result ↔ (word.now ≡ decimal number) }
+{
+    let mut buffer = Buffer::new();
+    word == buffer.format(number)
+}
+
+/// The step limit that a word spells.
+fn steps_of(word: &str) -> Option<u64>
+    ensures found { IfSome result (λ steps. (steps ≤ 100000) × (word.now ≡ decimal steps)) }
+    ensures none { IfNone result ((steps : ℕ) → steps ≤ 100000 → word.now ≡ decimal steps → ⊥) }
+{
+    match word.parse::<u64>() {
+        Ok(steps) => {
+            if steps <= MOST_STEPS && is_spelling(word, steps) {
+                Some(steps)
+            } else {
+                None
+            }
+        }
+        Err(_) => None,
+    }
+}
+
+/// The command of a kind and a dimension, with nothing behind them.
+fn short_command(kind: Kind, d: u8) -> Command
+    requires { IsDimension d }
+    ensures range { InRange result }
+    ensures words { Spells result (kind_word kind ∷ decimal d ∷ []) }
+{
+    match kind {
+        Kind::Principal => Command::Principal { d },
+        Kind::Summary => Command::Summary { d },
+        Kind::Run => Command::Run {
+            d,
+            steps: MOST_STEPS,
+        },
+    }
+}
+
+/// The command of `run D --steps`, with the step limit to come.
+fn read_steps(words: &[&str], d: u8) -> Result<Command, WordsError>
+    requires dimension { IsDimension d }
+    requires front { HasFront (texts words.now) (codes "run" ∷ decimal d ∷ codes "--steps" ∷ []) }
+    ensures command { IfOk result (λ c. InRange c × Spells c (texts words.now)) }
     ensures fault { IfErr result (λ e. FaultAt (texts words.now) (place_of e)) }
 {
-    if words.is_empty() {
-        return Err(WordsError::Fault { place: 0 });
+    if words.len() == 3 {
+        return Err(WordsError::Fault { place: 3 });
     }
-    if !is_principal(word_at(words, 0)) {
-        return Err(WordsError::Fault { place: 0 });
+    match steps_of(word_at(words, 3)) {
+        None => Err(WordsError::Fault { place: 3 }),
+        Some(steps) => {
+            if words.len() == 4 {
+                Ok(Command::Run { d, steps })
+            } else {
+                Err(WordsError::Fault { place: 4 })
+            }
+        }
     }
-    if words.len() == 1 {
-        return Err(WordsError::Fault { place: 1 });
-    }
-    match dimension_of(word_at(words, 1)) {
-        None => Err(WordsError::Fault { place: 1 }),
-        Some(d) => {
-            if words.len() == 2 {
-                Ok(Command::Principal { d })
+}
+
+/// The command of a kind and a dimension, with a word more behind them.
+fn read_option(words: &[&str], kind: Kind, d: u8) -> Result<Command, WordsError>
+    requires dimension { IsDimension d }
+    requires front { HasFront (texts words.now) (kind_word kind ∷ decimal d ∷ []) }
+    requires more { 2 < length words.now }
+    ensures command { IfOk result (λ c. InRange c × Spells c (texts words.now)) }
+    ensures fault { IfErr result (λ e. FaultAt (texts words.now) (place_of e)) }
+{
+    match kind {
+        Kind::Principal => Err(WordsError::Fault { place: 2 }),
+        Kind::Summary => Err(WordsError::Fault { place: 2 }),
+        Kind::Run => {
+            if is_steps(word_at(words, 2)) {
+                read_steps(words, d)
             } else {
                 Err(WordsError::Fault { place: 2 })
             }
@@ -72,10 +162,46 @@ pub fn read_words(words: &[&str]) -> Result<Command, WordsError>
     }
 }
 
+/// The command of a kind, with the dimension to come.
+fn read_dimension(words: &[&str], kind: Kind) -> Result<Command, WordsError>
+    requires { HasFront (texts words.now) (kind_word kind ∷ []) }
+    ensures command { IfOk result (λ c. InRange c × Spells c (texts words.now)) }
+    ensures fault { IfErr result (λ e. FaultAt (texts words.now) (place_of e)) }
+{
+    if words.len() == 1 {
+        return Err(WordsError::Fault { place: 1 });
+    }
+    match dimension_of(word_at(words, 1)) {
+        None => Err(WordsError::Fault { place: 1 }),
+        Some(d) => {
+            if words.len() == 2 {
+                Ok(short_command(kind, d))
+            } else {
+                read_option(words, kind, d)
+            }
+        }
+    }
+}
+
+/// The command that the words spell, which stand as behind the program's name, or the place of their first
+/// fault. It takes no memory.
+pub fn read_words(words: &[&str]) -> Result<Command, WordsError>
+    ensures command { IfOk result (λ c. InRange c × Spells c (texts words.now)) }
+    ensures fault { IfErr result (λ e. FaultAt (texts words.now) (place_of e)) }
+{
+    if words.is_empty() {
+        return Err(WordsError::Fault { place: 0 });
+    }
+    match kind_of(word_at(words, 0)) {
+        None => Err(WordsError::Fault { place: 0 }),
+        Some(kind) => read_dimension(words, kind),
+    }
+}
+
 /// A law, with nothing to run: a list of words has a fault at one place at most, none where it is a command,
-/// and is one command at most.
+/// and spells one command at most.
 pub fn faults_are_exact()
     ensures one_place { EveryFaultHasOnePlace }
     ensures none { NoCommandHasAFault }
-    ensures one_command { EveryCommandHasItsWords }
+    ensures one_command { WordsSpellOneCommand }
 {}

@@ -1,4 +1,6 @@
 use Rattle.std.proofs.Common.{arith, ◌≡◌, ◌<◌, ◌-◌, ◌∙◌, sym, ap, subst, length, get_or, [], ℕ, List, ℤ, Err}
+use Rattle.lt_model.specs.Principal.{IsPrincipal}
+use Rattle.lt_geometry.proofs.Neighbours.{principal_delaunay}
 use Rattle.lt_triang.specs.Across.{IsOpenAnswer}
 use Rattle.lt_triang.specs.Kept.{AreClasses}
 use Rattle.lt_principal.specs.Paths.{points_of}
@@ -20,7 +22,8 @@ pub returns-in-Ok : goal.returns-in-Ok
 returns-in-Ok c =
     let given = points_of c.in_ok-points.points.items in
     let same = rw (c.in_ok-classes.ensures, c.as_slice.ensures.value) at c.in-Ok.ensures.made in
-    same_principal c.args.d c.in-Ok.triangulation given c.dimension-dimension.ensures.ascending c.in_ok-points.ensures same
+    let p : IsPrincipal c.args.d c.in-Ok.triangulation = same_principal c.args.d c.in-Ok.triangulation given c.dimension-dimension.ensures.ascending c.in_ok-points.ensures same in
+    record { principal = p; delaunay = principal_delaunay c.args.d c.in-Ok.triangulation (omega (arith, c.requires.low)) p }
 
 pub unreachable-requires : goal.unreachable-requires
 unreachable-requires c =

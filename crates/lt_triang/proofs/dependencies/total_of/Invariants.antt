@@ -5,5 +5,5 @@ use Rattle.lt_triang.proofs.dependencies.total_of.Given as goal
 abbrev pub invariant-loop-i : goal.invariant-loop-i
 invariant-loop-i l = record {
   so_far : l.sum +ℤ total (drop l.i l.terms) ≡ total l.terms;
-  small : nat_abs l.sum ≤ l.i * 2 ^ 60;
+  small : nat_abs l.sum ≤ l.i * 2 ^ 56;
 }

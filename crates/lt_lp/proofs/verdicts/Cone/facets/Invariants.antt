@@ -1,9 +1,6 @@
-use Rattle.std.proofs.Common.{◌≡◌, ◌≤◌, ◌+◌, length, drop}
-use Rattle.lt_lp.specs.Verdicts.{wall_rows}
+use Rattle.std.proofs.Common.{◌≡◌, ◌≤◌}
+use Rattle.lt_lp.proofs.FacetRows.{walls}
 use Rattle.lt_lp.proofs.verdicts.Cone.facets.Given as goal
 
-abbrev pub invariant-loop-j : goal.invariant-loop-j
-invariant-loop-j l = record {
-  few : l.count ≤ l.j;
-  rest : l.count + length (wall_rows (drop l.j l.self.rows)) ≡ length (wall_rows l.self.rows);
-}
+abbrev pub invariant-loop-i : goal.invariant-loop-i
+invariant-loop-i l = record { counted : l.count ≡ walls l.i l.self.rows; few : l.count ≤ l.i; }

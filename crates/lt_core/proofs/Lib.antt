@@ -1,0 +1,12 @@
+pub mod Equivalent
+pub mod Undo
+pub mod Recording
+pub mod Steps
+pub mod Kept
+pub mod Starting
+pub mod Counting
+pub mod ConeFacets
+pub mod Crossings
+pub mod Reaching
+pub mod Writes
+pub mod Sounds

@@ -1,0 +1,40 @@
+use Rattle.std.proofs.Common.{◌≡◌, ◌≤◌, sym, ◌∙◌, ap, subst, arith, length, map, vec_len, vec_capacity, []}
+use Rattle.std.proofs.lemmas.List.{length-map}
+use Rattle.lt_model.specs.Atlases as model
+use Rattle.lt_model.specs.RightAtlases.{open_places}
+use Rattle.lt_core.specs.declared.atlas.Atlas.TheInside.{Inside}
+use Rattle.lt_core.specs.Marks.{entry_of, marks_of}
+use Rattle.lt_core.specs.Sound.{IsSound}
+use Rattle.lt_core.proofs.Sounds.{sound_fresh, value_fresh}
+use Rattle.lt_core.proofs.atlas.Atlas.of.Goals as goal
+
+pub invariant_of-result : goal.invariant_of-result
+invariant_of-result c =
+    let i : Inside = record {
+      dimension = c.args.dimension;
+      entries = c.args.entries;
+      marks = c.args.marks;
+      queue = c.in_ok-queue.queue;
+      log = c.reserve.new.self;
+      undecided = c.len-undecided.result
+    } in
+    let hq : c.in_ok-queue.queue.items ≡ open_places 0 (marks_of c.args.marks.items) = c.in_ok-queue.ensures ∙ ap (λ l. open_places 0 (marks_of l)) c.deref.ensures.value in
+    let hl : c.reserve.new.self.items ≡ [] = c.in_ok-reserve.ensures.items ∙ c.new-log.ensures.items in
+    let few : length (map entry_of c.args.entries.items) ≤ 100001 = (let l = length-map c.args.entries.items entry_of in omega arith) in
+    let long : c.len-undecided.result ≡ length (open_places 0 (marks_of c.args.marks.items)) = c.len-undecided.ensures ∙ c.in_ok-queue.queue.ok.0 ∙ ap length hq in
+    let room : c.len-undecided.result ≤ vec_capacity c.reserve.new.self = omega (arith, c.in_ok-reserve.ensures.ok, c.len.ensures, c.len-undecided.ensures) in
+    subst (λ (z : model.Atlas). IsSound z c.len-undecided.result (vec_capacity c.reserve.new.self)) (sym (value_fresh i hq hl))
+    (sound_fresh c.args.dimension (map entry_of c.args.entries.items) (marks_of c.args.marks.items) c.len-undecided.result (vec_capacity c.reserve.new.self) c.requires.low c.requires.high c.requires.right few long room)
+
+pub returns : goal.returns
+returns c =
+    value_fresh (record {
+      dimension = c.args.dimension;
+      entries = c.args.entries;
+      marks = c.args.marks;
+      queue = c.in_ok-queue.queue;
+      log = c.reserve.new.self;
+      undecided = c.len-undecided.result
+    })
+    (c.in_ok-queue.ensures ∙ ap (λ l. open_places 0 (marks_of l)) c.deref.ensures.value)
+    (c.in_ok-reserve.ensures.items ∙ c.new-log.ensures.items)

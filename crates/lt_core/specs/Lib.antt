@@ -1,0 +1,6 @@
+pub mod Marks
+pub mod Sound
+pub mod Meaning
+pub mod Candidates
+pub mod Refusals
+pub mod Reached

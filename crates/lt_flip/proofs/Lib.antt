@@ -1,0 +1,5 @@
+mod Independent
+mod Near
+mod MadeClasses
+mod Collected
+mod Wide

@@ -1,0 +1,162 @@
+//! The flip of a triangulation at a facet.
+
+ghost use Rattle.std.specs.Prelude.{◌≡◌, ◌<◌, ◌≤◌, ◌-◌, suc, ℕ, ℤ, pos, List, [], length, get_or, IfOk, MatchOption, ◌↔◌};
+ghost use Rattle.std.specs.List.{Contains};
+ghost use Rattle.std.specs.List.Sorted.{IsStrictlySortedBy};
+ghost use Rattle.lt_model.specs.Limits.{span, span_limit, class_span};
+ghost use Rattle.lt_model.specs.Order.{simplex_cmp};
+ghost use Rattle.lt_model.specs.Simplices.{IsClass};
+ghost use Rattle.lt_model.specs.Walls.{IsFacet, IsAcross};
+ghost use Rattle.lt_model.specs.Flips.{IsFlipOf};
+ghost use Rattle.lt_triang.specs.Kept.{AreClasses, dimension_of, IsOfSomeForm};
+ghost use Rattle.lt_flip.specs.Flipped.{AreFlipped, AreFlippedBelow, IsFirstWide, IsWideFlip};
+ghost use Rattle.lt_flip.specs.declared.flips.FlipError.TheVariants.{Wide};
+
+use crate::exchanges::push_exchanged;
+use crate::outers::outer_of;
+use lt_lattice::Normal;
+use lt_model::Memory;
+use lt_triang::{Class, TriangError, Triangulation, span_limit};
+use std::alloc::Global;
+
+/// Why no triangulation across a facet is answered.
+#[derive(Drop)]
+pub enum FlipError {
+    /// The span of the triangulation across is above the limit.
+    Wide {
+        /// The first of its classes whose span is above the limit.
+        class: Class,
+        /// The span of that class.
+        span: i64,
+    },
+    /// Memory was refused.
+    Memory,
+}
+
+impl From<Memory> for FlipError {
+    ghost use Rattle.std.specs.Prelude.{◌≡◌};
+    ghost use Rattle.lt_flip.specs.declared.flips.FlipError.TheVariants as variant;
+
+    ghost from_gives = { λ _ e. e ≡ variant.Memory };
+
+    fn from(_refused: Memory) -> FlipError {
+        FlipError::Memory
+    }
+}
+
+/// Appends what the flip makes of the class at place `class`: the class itself where none of its facets has the regulator, and else
+/// the classes that the flip puts in.
+fn push_flipped(
+    all: &mut Vec<Class>,
+    t: &Triangulation,
+    facet: &Normal,
+    class: usize,
+) -> Result<(), Memory>
+    requires delaunay { IsOfSomeForm t.now }
+    requires facet { IsFacet (dimension_of t.now) t.now facet.now }
+    requires class { class < length t.now }
+    requires from { AreFlippedBelow (dimension_of t.now) t.now facet.now class all.old.items }
+    ensures { IfOk result (λ _. AreFlippedBelow (dimension_of t.now) t.now facet.now (suc class) all.new.items) }
+{
+    let d = usize::from(t.dimension());
+    let simplex = t.class(class);
+    match outer_of(t, class, facet) {
+        Some(outer) => push_exchanged(all, d, simplex.vertices(), &outer.vertex, &outer.expression),
+        None => match all.push(simplex.copy()) {
+            Ok(()) => Ok(()),
+            Err(_) => Err(Memory),
+        },
+    }
+}
+
+/// The classes of the flip, in the order of the classes that they come from.
+fn flipped(alloc: Global, t: &Triangulation, facet: &Normal) -> Result<Vec<Class>, Memory>
+    requires low { 2 ≤ dimension_of t.now }
+    requires delaunay { IsOfSomeForm t.now }
+    requires facet { IsFacet (dimension_of t.now) t.now facet.now }
+    ensures { IfOk result (λ all. AreFlipped (dimension_of t.now) t.now facet.now all.items) }
+{
+    let mut all = Vec::new(alloc);
+    for class in 0..t.len() {
+        push_flipped(&mut all, t, facet, class)?;
+    }
+    Ok(all)
+}
+
+/// The classes in ascending order, each once.
+fn sorted_distinct(given: Vec<Class>) -> Vec<Class>
+    ensures ascending { IsStrictlySortedBy simplex_cmp result.items }
+    ensures members { (s : List (List ℤ)) → Contains result.items s ↔ Contains given.items s }
+{
+    let mut classes = given;
+    classes.sort_unstable();
+    classes.dedup();
+    classes
+}
+
+/// The place of the first class whose span is above the limit.
+fn first_wide(d: u8, classes: &[Class]) -> Option<usize>
+    ensures { MatchOption result ((i : ℕ) → i < length classes.now → class_span (get_or classes.now i []) ≤ span_limit d) (λ i. IsFirstWide d classes.now i) }
+{
+    let limit = span_limit(d);
+    for i in 0..classes.len() {
+        if classes[i].span() > limit {
+            return Some(i);
+        }
+    }
+    None
+}
+
+/// What is said of the first class whose span is above the limit.
+fn wide(class: &Class) -> FlipError
+    ensures { result ≡ Wide class.now (pos (class_span class.now)) }
+{
+    FlipError::Wide {
+        class: class.copy(),
+        span: class.span(),
+    }
+}
+
+/// The triangulation of the classes of a flip, which are in ascending order and have spans within the limit.
+fn triangulation_of(classes: Vec<Class>) -> Result<Triangulation, Memory>
+    requires occupied { 0 < length classes.items }
+    requires classes { AreClasses (length (get_or classes.items 0 []) - 1) classes.items }
+    requires ascending { IsStrictlySortedBy simplex_cmp classes.items }
+    requires delaunay { IsOfSomeForm classes.items }
+    ensures { IfOk result (λ t. t ≡ classes.items) }
+{
+    match Triangulation::of(classes) {
+        Ok(triangulation) => {
+            // It shows that the classes ascend.
+            let _dimension = triangulation.dimension();
+            Ok(triangulation)
+        }
+        Err(TriangError::Memory) => Err(Memory),
+        Err(TriangError::OpenFacet { class: _, facet: _ }) => unreachable!(),
+    }
+}
+
+/// The triangulation across a facet of the secondary cone of `t`: the members that stand in a cell of the facet's regulator are
+/// exchanged for the other simplices of that cell. `t` is the Delaunay triangulation of some form, and `facet` is a facet of it.
+/// Wide exactly where the span of the triangulation across is above the limit. Voronoi 1908; Schürmann, chapter 4 ("bistellar
+/// operations").
+pub fn flip(alloc: Global, t: &Triangulation, facet: &Normal) -> Result<Triangulation, FlipError>
+    requires delaunay { IsOfSomeForm t.now }
+    requires facet { IsFacet (dimension_of t.now) t.now facet.now }
+    ensures flip { IfOk result (λ r. IsFlipOf (dimension_of t.now) t.now facet.now r) }
+    ensures across { IfOk result (λ r. IsAcross (dimension_of t.now) t.now facet.now r) }
+    ensures delaunay { IfOk result (λ r. IsOfSomeForm r) }
+    ensures dimension { IfOk result (λ r. dimension_of r ≡ dimension_of t.now) }
+    ensures narrow { IfOk result (λ r. span r ≤ span_limit (dimension_of t.now)) }
+    ensures wide { (class : List (List ℤ)) (wide : ℤ) → result ≡ Err (Wide class wide) → IsWideFlip (dimension_of t.now) t.now facet.now class wide }
+{
+    let d = t.dimension();
+    let classes = sorted_distinct(flipped(alloc, t, facet)?);
+    match first_wide(d, classes.as_slice()) {
+        Some(i) => Err(wide(&classes[i])),
+        None => {
+            let across = triangulation_of(classes)?;
+            Ok(across)
+        }
+    }
+}

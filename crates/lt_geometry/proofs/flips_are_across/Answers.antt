@@ -1,0 +1,5 @@
+use Rattle.lt_geometry.proofs.FlipOf as law
+use Rattle.lt_geometry.proofs.flips_are_across.Goals as goal
+
+pub returns : goal.returns
+returns c = law.flips_are_across

@@ -1,0 +1,4 @@
+pub mod Images
+pub mod Bases
+pub mod Matches
+pub mod Wide

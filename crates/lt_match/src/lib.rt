@@ -1,0 +1,12 @@
+//! Unimodular matrices that carry one triangulation onto another.
+#![tactic(auto)]
+
+mod bases;
+mod carrying;
+mod images;
+mod matching;
+mod transforms;
+
+pub use carrying::carries;
+pub use matching::match_types;
+pub use transforms::{ImageError, image};

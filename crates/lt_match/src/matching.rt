@@ -1,0 +1,197 @@
+//! The first matrix that carries one triangulation onto another.
+
+ghost use Rattle.std.specs.Prelude.{◌≡◌, ◌<◌, ◌≤◌, ◌*◌, ◌++◌, ◌∷◌, suc, ℕ, ℤ, List, [], length, get_or, IsTrue, IfOk, IfSome, MatchOption, ◌↔◌};
+ghost use Rattle.std.specs.List.{Contains, All};
+ghost use Rattle.lt_model.specs.Flat.{rows};
+ghost use Rattle.lt_model.specs.Limits.{span_limit};
+ghost use Rattle.lt_model.specs.Matrices.{Carries, AreEquivalent};
+ghost use Rattle.lt_model.specs.Principal.{IsOrder};
+ghost use Rattle.lt_model.specs.Simplices.{IsClass};
+ghost use Rattle.lt_model.specs.Triangulations.{IsDelaunay};
+ghost use Rattle.lt_geometry.specs.Carrying.{IsCandidate};
+ghost use Rattle.lt_geometry.proofs.Rearranged.{IsDistinct};
+ghost use Rattle.lt_triang.specs.Bounds.{AreNear};
+ghost use Rattle.lt_triang.specs.Kept.{IsTriangulation};
+ghost use Rattle.lt_match.specs.Images.{dimension_of};
+ghost use Rattle.lt_match.specs.Bases.{IsBasis};
+ghost use Rattle.lt_match.specs.Matches.{in_order, BeginsWith, HasNoMatch, IsMatch, IsFirstOrder, IsFirstMatch, ArePlaces, IsBeginning};
+
+use crate::bases::{Basis, basis_of, matrix_taking};
+use crate::carrying::{all_go, comes_back};
+use arrayvec::ArrayVec;
+use lt_lattice::{Matrix, Point};
+use lt_model::Memory;
+use lt_triang::Triangulation;
+use std::alloc::Global;
+
+/// The vertices in the order, less the first in that order.
+fn targets(d: usize, s: &[Point], order: &[usize]) -> ArrayVec<Point, 7>
+    requires few { d ≤ 6 }
+    requires class { IsClass d s.now }
+    requires near { AreNear (span_limit d) s.now }
+    requires order { IsOrder (suc d) order.now }
+    ensures { result.items ≡ in_order s.now order.now }
+{
+    let mut all: ArrayVec<Point, 7> = ArrayVec::new();
+    for k in order {
+        match s[*k].minus(&s[order[0]]) {
+            Some(target) => all.push(target),
+            None => unreachable!(),
+        }
+    }
+    all
+}
+
+/// The candidate of an order of the vertices of a member of `to`, where it carries.
+fn attempt(
+    d: usize,
+    basis: &Basis,
+    from: &Triangulation,
+    to: &Triangulation,
+    s: &[Point],
+    order: &[usize],
+) -> Option<Matrix>
+    requires origin { IsTriangulation d from.now }
+    requires target { IsTriangulation d to.now }
+    requires count { length from.now ≡ length to.now }
+    requires basis { IsBasis d (get_or from.now 0 []) basis.now.scales.items basis.now.terms.items }
+    requires member { Contains to.now s.now }
+    requires order { IsOrder (suc d) order.now }
+    ensures { MatchOption result (HasNoMatch d from.now to.now s.now order.now) (λ u. (length u ≡ d * d) × IsMatch d from.now to.now s.now order.now (rows d u)) }
+{
+    let targets = targets(d, s, order);
+    let u = match matrix_taking(d, basis, targets.as_slice()) {
+        Some(u) => u,
+        None => return None,
+    };
+    if !all_go(d, &u, from, 1, to) {
+        return None;
+    }
+    if !comes_back(d, from.class(0).vertices(), targets.as_slice()) {
+        return None;
+    }
+    Some(u)
+}
+
+/// Whether the number stands among the others.
+fn stands_among(chosen: &[usize], k: usize) -> bool
+    ensures { IsTrue result ↔ Contains chosen.now k }
+{
+    for other in chosen {
+        if *other == k {
+            return true;
+        }
+    }
+    false
+}
+
+/// The numbers with one more after them.
+fn with_last(chosen: &[usize], k: usize) -> ArrayVec<usize, 7>
+    requires { length chosen.now < 7 }
+    ensures { result.items ≡ chosen.now ++ k ∷ [] }
+{
+    let mut all: ArrayVec<usize, 7> = ArrayVec::new();
+    for other in chosen {
+        all.push(*other);
+    }
+    all.push(k);
+    all
+}
+
+/// The match of the first order that begins with the numbers and has one, where orders are compared number by number. The orders are
+/// gone through in place: a list of each would take memory for every candidate.
+fn search(
+    d: usize,
+    basis: &Basis,
+    from: &Triangulation,
+    to: &Triangulation,
+    s: &[Point],
+    chosen: &[usize],
+) -> Option<Matrix>
+    requires origin { IsTriangulation d from.now }
+    requires target { IsTriangulation d to.now }
+    requires count { length from.now ≡ length to.now }
+    requires basis { IsBasis d (get_or from.now 0 []) basis.now.scales.items basis.now.terms.items }
+    requires member { Contains to.now s.now }
+    requires chosen { IsBeginning (suc d) chosen.now }
+    ensures { MatchOption result ((p : List ℕ) → BeginsWith chosen.now p → HasNoMatch d from.now to.now s.now p) (λ u. (length u ≡ d * d) × IsFirstOrder d from.now to.now s.now chosen.now (rows d u)) }
+{
+    if chosen.len() > d {
+        return attempt(d, basis, from, to, s, chosen);
+    }
+    for k in 0..d + 1 {
+        if !stands_among(chosen, k) {
+            let longer = with_last(chosen, k);
+            match search(d, basis, from, to, s, longer.as_slice()) {
+                Some(u) => return Some(u),
+                None => {}
+            }
+        }
+    }
+    None
+}
+
+/// The places of the members of `to` that may have a match, in ascending order.
+fn candidate_places(
+    alloc: Global,
+    d: usize,
+    from: &Triangulation,
+    to: &Triangulation,
+) -> Result<Vec<usize>, Memory>
+    ensures { IfOk result (λ places. ArePlaces d from.now to.now places.items) }
+{
+    let mut places = Vec::new(alloc);
+    for n in 0..to.len() {
+        match places.push(n) {
+            Ok(()) => {}
+            Err(_) => return Err(Memory),
+        }
+    }
+    Ok(places)
+}
+
+/// The first match, where members are gone through by the places.
+fn first_match(
+    d: usize,
+    from: &Triangulation,
+    to: &Triangulation,
+    places: &[usize],
+) -> Option<Matrix>
+    requires origin { IsTriangulation d from.now }
+    requires target { IsTriangulation d to.now }
+    requires count { length from.now ≡ length to.now }
+    requires places { ArePlaces d from.now to.now places.now }
+    ensures { MatchOption result ((n : ℕ) → n < length to.now → (q : List ℕ) → HasNoMatch d from.now to.now (get_or to.now n []) q) (λ u. (length u ≡ d * d) × IsFirstMatch d from.now to.now (rows d u)) }
+{
+    let basis = basis_of(d, from.class(0).vertices());
+    for n in places {
+        match search(d, &basis, from, to, to.class(*n).vertices(), &[]) {
+            Some(u) => return Some(u),
+            None => {}
+        }
+    }
+    None
+}
+
+/// The first matrix that carries `from` onto `to`, or None where none does. The matrices are ordered by the member of `to` to which the
+/// first class of `from` goes, and then by the order in which its vertices go to that member's, lexicographically. Both triangulations
+/// are Delaunay triangulations of some form. Memory where memory was refused.
+pub fn match_types(
+    alloc: Global,
+    from: &Triangulation,
+    to: &Triangulation,
+) -> Result<Option<Matrix>, Memory>
+    requires same { dimension_of to.now ≡ dimension_of from.now }
+    requires delaunay { (q : List ℤ) × IsDelaunay (dimension_of from.now) q from.now }
+    requires delaunay_too { (q : List ℤ) × IsDelaunay (dimension_of from.now) q to.now }
+    ensures size { IfOk result (λ r. IfSome r (λ u. length u ≡ dimension_of from.now * dimension_of from.now)) }
+    ensures first { IfOk result (λ r. MatchOption r (AreEquivalent (dimension_of from.now) from.now to.now → ⊥) (λ u. IsFirstMatch (dimension_of from.now) from.now to.now (rows (dimension_of from.now) u))) }
+{
+    let d = from.dimension() as usize;
+    let _same = to.dimension();
+    if from.len() != to.len() {
+        return Ok(None);
+    }
+    let places = candidate_places(alloc, d, from, to)?;
+    Ok(first_match(d, from, to, places.as_slice()))
+}

@@ -1,0 +1,6 @@
+mod Multiples
+mod Excesses
+mod Near
+mod Positive
+mod Collected
+mod Listed

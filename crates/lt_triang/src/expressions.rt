@@ -1,0 +1,49 @@
+//! Expressions of points over the vertices of a class.
+
+ghost use Rattle.std.specs.Prelude.{◌≡◌, ◌*◌, ◌^◌, suc, ◌∷◌, length};
+ghost use Rattle.std.specs.List.{All};
+ghost use Rattle.lt_model.specs.Limits.{span_limit};
+ghost use Rattle.lt_model.specs.Vectors.{IsPrimitive};
+ghost use Rattle.lt_model.specs.Cones.{AreBelow};
+ghost use Rattle.lt_model.specs.Simplices.{IsExpression};
+ghost use Rattle.lt_lattice.specs.Ranges.{IsWithin};
+
+use crate::classes::Class;
+use crate::dependencies::{total_of, with_first};
+use crate::vertices::{columns, widened};
+use arrayvec::ArrayVec;
+use lt_lattice::Point;
+use lt_solve::solve;
+
+/// A positive multiple of a point as a sum of multiples of the vertices of a class: `scale` times the point is the sum of the
+/// vertices times the coefficients, and `scale` is the sum of the coefficients. The greatest common divisor of all is 1.
+#[derive(Drop)]
+pub struct Expression {
+    /// What the point is multiplied by, above 0 and below 2^59.
+    pub scale: i128,
+    /// A number for each vertex, in their order, below 2^59 in absolute value.
+    pub coefficients: ArrayVec<i128, 7>,
+}
+
+impl Class {
+    /// The expression of a point in lowest terms. The coordinates of the point are at most twice the span limit in absolute value.
+    pub fn expression(&self, x: &Point) -> Expression
+        requires dimension { length self.now ≡ suc (length x.now) }
+        requires near { All (IsWithin (2 * span_limit (length x.now))) x.now }
+        ensures expression { IsExpression self.now x.now result.scale result.coefficients.items }
+        ensures primitive { IsPrimitive (result.scale ∷ result.coefficients.items) }
+        ensures below { AreBelow (2 ^ 59) (result.scale ∷ result.coefficients.items) }
+    {
+        let _dimension = self.dimension();
+        match solve(&columns(self.vertices()), widened(x.coords()).as_slice()) {
+            Ok(found) => {
+                let nums = found.nums.as_slice();
+                Expression {
+                    scale: found.den,
+                    coefficients: with_first(found.den - total_of(nums), nums),
+                }
+            }
+            Err(_) => unreachable!(),
+        }
+    }
+}

@@ -1,0 +1,11 @@
+pub mod Sums
+pub mod Signs
+pub mod Lists
+pub mod Space
+pub mod Walls
+pub mod Ellipsoid
+pub mod Cells
+pub mod Flip
+pub mod Strictly
+pub mod Margins
+pub mod Local
