@@ -1,6 +1,6 @@
 //! The atlas and its recordings.
 
-ghost use Rattle.std.specs.Prelude.{◌≡◌, ◌≢◌, ◌<◌, ◌≤◌, ◌+◌, ◌^◌, ℕ, length, get_or, map, false};
+ghost use Rattle.std.specs.Prelude.{◌≡◌, ◌≢◌, ◌<◌, ◌≤◌, ◌+◌, ◌^◌, ℕ, length, get_or, map, false, []};
 ghost use Rattle.std.specs.Result.{OnOk, OnErr, IfOk, IfErr, MatchResult};
 ghost use Rattle.lt_model.specs.Atlases.{open_mark, cross, mark_at, place_at, push, grow, undecided};
 ghost use Rattle.lt_model.specs.Walls.{IsAcross};

@@ -54,3 +54,7 @@ pub mod Regulated
 pub mod Crossed
 pub mod Candidates
 pub mod Counted
+pub mod Choices
+pub mod Parity
+pub mod EdgeLists
+pub mod Fewness

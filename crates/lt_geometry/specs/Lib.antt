@@ -8,3 +8,4 @@ pub mod Walls
 pub mod Flips
 pub mod Exchanges
 pub mod Carrying
+pub mod Few

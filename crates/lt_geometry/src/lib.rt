@@ -1,6 +1,7 @@
 //! Laws on forms and triangulations, each the contract of a function with an empty body. No program calls them.
 #![tactic(auto)]
 
+ghost use Rattle.lt_geometry.specs.Few.{ClassesAreChoices, RegulatorsAreAtFacets, FewClasses, FewRegulators};
 ghost use Rattle.lt_geometry.specs.Laws.{EveryPavingIsDelaunay, FormsHaveOneTriangulation};
 ghost use Rattle.lt_geometry.specs.FirstLaws.{NormalsAreLinear, ValuesAreLinear, ParallelogramLaw, ExcessesMoveAlong, ExpressionsAreProportional};
 ghost use Rattle.lt_geometry.specs.Regulators.{PointsInsideAreVertices, MembersLieOpposite, NeighboursAreUnique, NeighboursAreMutual, OuterVerticesLieAbove, FacetsHaveOneRegulator, RegulatorsAreMutual, RegulatorsArePositive, TriangulationsHaveRegulators, LocalToGlobal};
@@ -220,4 +221,17 @@ pub fn crossings_are_carried()
 pub fn matrices_come_from_orders()
     ensures each { WhatCarriesIsACandidate }
     ensures one { OrdersHaveOneCandidate }
+{}
+
+/// A Delaunay triangulation in dimension d has at most as many classes as there are choices of d of `2^d - 1` edges, and in
+/// dimension 2 to 6 at most 2^27.
+pub fn few_classes()
+    ensures choices { ClassesAreChoices }
+    ensures few { FewClasses }
+{}
+
+/// It has at most one regulator for each facet of a class, and in dimension 2 to 6 at most 2^29.
+pub fn few_regulators()
+    ensures facets { RegulatorsAreAtFacets }
+    ensures few { FewRegulators }
 {}

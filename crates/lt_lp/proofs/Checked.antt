@@ -18,10 +18,8 @@ use Rattle.lt_model.proofs.Integers.{mul_comm_z}
 use Rattle.lt_model.proofs.Squares.{length-scale}
 use Rattle.lt_model.proofs.Walk.{length-combine}
 use Rattle.lt_num.specs.Divisors.{DividesEach, IsGcdOf, MadePrimitive}
-use Rattle.lt_tableau.specs.Numbers.{column_at}
 use Rattle.lt_tableau.specs.Errors.{AreOfDimension}
 use Rattle.lt_tableau.proofs.Sums.{lookup_none, lookup_plus, lookup_scale}
-use Rattle.lt_tableau.proofs.Turned.{get_or_any}
 use Rattle.lt_lp.specs.Checks.{AreTerms, term_sum}
 use Rattle.lt_lp.proofs.Reduces.{primitive_from_gcd, map-is-scale, zero_divides}
 use Rattle.lt_lp.proofs.Combined.{same_lists, all_of_dimension}
@@ -56,7 +54,7 @@ pub record IsTermAt (count k : ℕ) (t : ℕ × ℤ) : Type 0 where
 
 pub term_at : (from count k : ℕ) (ts : List (ℕ × ℤ)) → AreTerms from count k ts → (i : ℕ) (d : ℕ × ℤ) → i < length ts → IsTermAt count k (get_or ts i d)
 term_at from count k [] h i d l = absurd (omega arith)
-term_at from count k (t ∷ ts) h zero d l = record { inside = h.1; small = h.4; }
+term_at from count k (t ∷ ts) h zero d l = record { inside = h.1; small = h.4 }
 term_at from count k (t ∷ ts) h (suc i) d l = term_at (suc t.0) count k ts h.5 i d (omega arith)
 
 nothing : {X : Type 0} (P : X → Type 0) → All P []
@@ -69,8 +67,10 @@ from_places from count k (t ∷ ts) h least l = (less_is least t.0 (below least 
   where
     below : (a b c : ℕ) → a < b → b ≤ c → a < c
     below a b c h l = omega arith
+
     below_suc : (a b c : ℕ) → a < b → b ≤ c → a < suc c
     below_suc a b c h l = omega arith
+
     less_is : (a b : ℕ) → a < b → nat_cmp a b ≡ Less
     less_is a b h = grind (arith, nat_tests)
 
@@ -106,9 +106,14 @@ first_from least (t ∷ ts) h = All-cons (λ y. suc least ≤ y) t.0 (places ts)
 terms_back : (from count k : ℕ) (ts : List (ℕ × ℤ)) → All (λ y. from ≤ y) (places ts) → IsStrictlySortedBy nat_cmp (places ts) → All (λ i. i < count) (places ts) → All (λ i. i ≢ k) (places ts) → All (λ x. pos 0 <ℤ x) (coefficients ts) → AreBelow (2 ^ 62) (coefficients ts) → AreTerms from count k ts
 unfolding IsStrictlySortedBy
 terms_back from count k [] f s w o p b = tt
-terms_back from count k (t ∷ ts) f s w o p b =
-    (All-head (λ y. from ≤ y) t.0 (places ts) f, All-head (λ i. i < count) t.0 (places ts) w, All-head (λ i. i ≢ k) t.0 (places ts) o, All-head (λ x. pos 0 <ℤ x) t.1 (coefficients ts) p, All-head (λ x. nat_abs x < 2 ^ 62) t.1 (coefficients ts) b,
-      terms_back (suc t.0) count k ts (first_from t.0 ts s.0) s.1 (All-tail (λ i. i < count) t.0 (places ts) w) (All-tail (λ i. i ≢ k) t.0 (places ts) o) (All-tail (λ x. pos 0 <ℤ x) t.1 (coefficients ts) p) (All-tail (λ x. nat_abs x < 2 ^ 62) t.1 (coefficients ts) b))
+terms_back from count k (t ∷ ts) f s w o p b = (
+  All-head (λ y. from ≤ y) t.0 (places ts) f,
+  All-head (λ i. i < count) t.0 (places ts) w,
+  All-head (λ i. i ≢ k) t.0 (places ts) o,
+  All-head (λ x. pos 0 <ℤ x) t.1 (coefficients ts) p,
+  All-head (λ x. nat_abs x < 2 ^ 62) t.1 (coefficients ts) b,
+  terms_back (suc t.0) count k ts (first_from t.0 ts s.0) s.1 (All-tail (λ i. i < count) t.0 (places ts) w) (All-tail (λ i. i ≢ k) t.0 (places ts) o) (All-tail (λ x. pos 0 <ℤ x) t.1 (coefficients ts) p) (All-tail (λ x. nat_abs x < 2 ^ 62) t.1 (coefficients ts) b),
+)
 
 all_from : (ps : List ℕ) → All (λ y. 0 ≤ y) ps
 all_from ps k d l = omega arith
@@ -149,29 +154,29 @@ long d ns ts h o w =
 
 pub parts_right : (d : ℕ) (ns : List (List ℤ)) (k : ℕ) (factor : ℤ) (ts : List (ℕ × ℤ)) → AreOfDimension d ns → k < length ns → HasParts d ns k factor ts → IsRightCombination d ns k factor ts
 parts_right d ns k factor ts h l p = record {
-    some = p.some;
-    few = rw (sym (h k [] l)) p.few;
-    ascending = ascending 0 (length ns) k ts p.terms;
-    within = within_places 0 (length ns) k ts p.terms;
-    other = other_places 0 (length ns) k ts p.terms;
-    positive = positive_terms 0 (length ns) k ts p.terms;
-    below = All-cons (λ x. nat_abs x < 2 ^ 62) factor (coefficients ts) p.small (below_terms 0 (length ns) k ts p.terms);
-    primitive = p.primitive;
-    sum = same_lists (combine (coefficients ts) (map (λ i. get_or ns i []) (places ts))) (scale factor (get_or ns k []))
-        (long d ns ts h p.occupied (within_places 0 (length ns) k ts p.terms) ∙ sym (length-scale factor (get_or ns k []) ∙ h k [] l))
-        (λ q b. sum_is ns q ts ∙ p.sums q (rw (length-scale factor (get_or ns k [])) at b) ∙ sym (lookup_scale factor (get_or ns k []) q));
-  }
+  some = p.some;
+  few = rw (sym (h k [] l)) p.few;
+  ascending = ascending 0 (length ns) k ts p.terms;
+  within = within_places 0 (length ns) k ts p.terms;
+  other = other_places 0 (length ns) k ts p.terms;
+  positive = positive_terms 0 (length ns) k ts p.terms;
+  below = All-cons (λ x. nat_abs x < 2 ^ 62) factor (coefficients ts) p.small (below_terms 0 (length ns) k ts p.terms);
+  primitive = p.primitive;
+  sum = same_lists (combine (coefficients ts) (map (λ i. get_or ns i []) (places ts))) (scale factor (get_or ns k []))
+      (long d ns ts h p.occupied (within_places 0 (length ns) k ts p.terms) ∙ sym (length-scale factor (get_or ns k []) ∙ h k [] l))
+      (λ q b. sum_is ns q ts ∙ p.sums q (rw (length-scale factor (get_or ns k [])) at b) ∙ sym (lookup_scale factor (get_or ns k []) q));
+}
 
 pub right_parts : (d : ℕ) (ns : List (List ℤ)) (k : ℕ) (factor : ℤ) (ts : List (ℕ × ℤ)) → AreOfDimension d ns → k < length ns → 0 < length (get_or ns k []) → IsRightCombination d ns k factor ts → HasParts d ns k factor ts
 right_parts d ns k factor ts h l n r = record {
-    some = r.some;
-    small = All-head (λ x. nat_abs x < 2 ^ 62) factor (coefficients ts) r.below;
-    occupied = occupied ts r.sum;
-    few = rw (h k [] l) r.few;
-    terms = terms_back 0 (length ns) k ts (all_from (places ts)) r.ascending r.within r.other r.positive (All-tail (λ x. nat_abs x < 2 ^ 62) factor (coefficients ts) r.below);
-    primitive = r.primitive;
-    sums = λ j b. sym (sum_is ns j ts) ∙ ap (λ (v : List ℤ). lookup v j) r.sum ∙ lookup_scale factor (get_or ns k []) j;
-  }
+  some = r.some;
+  small = All-head (λ x. nat_abs x < 2 ^ 62) factor (coefficients ts) r.below;
+  occupied = occupied ts r.sum;
+  few = rw (h k [] l) r.few;
+  terms = terms_back 0 (length ns) k ts (all_from (places ts)) r.ascending r.within r.other r.positive (All-tail (λ x. nat_abs x < 2 ^ 62) factor (coefficients ts) r.below);
+  primitive = r.primitive;
+  sums = λ j b. sym (sum_is ns j ts) ∙ ap (λ (v : List ℤ). lookup v j) r.sum ∙ lookup_scale factor (get_or ns k []) j;
+}
   where
     occupied : (us : List (ℕ × ℤ)) → combine (coefficients us) (map (λ i. get_or ns i []) (places us)) ≡ scale factor (get_or ns k []) → 0 < length us
     occupied [] e = let a : 0 ≡ length (scale factor (get_or ns k [])) = ap (length {A = ℤ}) e in let b = length-scale factor (get_or ns k []) in absurd (omega arith)

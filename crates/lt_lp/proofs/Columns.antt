@@ -1,5 +1,5 @@
 -- Sums of sums, and numbers of lists filled with zeros.
-use Rattle.std.proofs.Common.{◌≡◌, refl, sym, ◌∙◌, ap, arith, ℕ, zero, suc, ◌≤◌, ◌<◌, ℤ, pos, ◌+ℤ◌, ◌*ℤ◌, List, [], ◌∷◌}
+use Rattle.std.proofs.Common.{◌≡◌, refl, sym, ◌∙◌, ap, arith, ℕ, zero, suc, ◌<◌, ℤ, pos, ◌+ℤ◌, ◌*ℤ◌, List}
 use Rattle.std.proofs.lemmas.Int.{ints}
 use Rattle.lt_model.specs.Padded.{lookup, tail_z}
 use Rattle.lt_model.proofs.Integers.{mul_zero_z, mul_add_z}

@@ -1,25 +1,25 @@
 -- The combination of a tableau whose objective is 0 is right.
-use Rattle.std.proofs.Common.{subst, ◌≡◌, ◌≢◌, refl, sym, ◌∙◌, ap, ℕ, zero, suc, ◌+◌, ◌-◌, ◌*◌, ◌^◌, ◌≤◌, ◌<◌, ℤ, pos, negsuc, ◌+ℤ◌, ◌-ℤ◌, ◌*ℤ◌, ◌≤ℤ◌, ◌<ℤ◌, arith, List, [], ◌∷◌, map, length, get_or, nat_abs}
+use Rattle.std.proofs.Common.{subst, ◌≡◌, ◌≢◌, refl, sym, ◌∙◌, ap, ℕ, suc, ◌+◌, ◌-◌, ◌^◌, ◌≤◌, ◌<◌, ℤ, pos, ◌-ℤ◌, ◌*ℤ◌, ◌≤ℤ◌, ◌<ℤ◌, arith, List, [], ◌∷◌, map, length, get_or, nat_abs}
 use Rattle.std.specs.Prelude.{remove}
-use Rattle.std.specs.List.{All, AllByRecursion}
+use Rattle.std.specs.List.{All}
 use Rattle.std.specs.List.Sorted.{IsStrictlySortedBy}
 use Rattle.std.specs.Ordering.{nat_cmp}
-use Rattle.std.proofs.lemmas.Int.{ints, by_lt_z}
+use Rattle.std.proofs.lemmas.Int.{ints}
 use Rattle.std.proofs.lemmas.List.{length-map}
 use Rattle.std.proofs.lemmas.List.Elements.{All-cons, All-head, All-tail}
 use Rattle.lt_model.specs.Padded.{lookup}
 use Rattle.lt_model.specs.Vectors.{scale, dot, combine, total}
 use Rattle.lt_model.specs.Forms.{numbers_of_form}
 use Rattle.lt_model.specs.Simplices.{AllOfDimension}
-use Rattle.lt_model.specs.Cones.{coefficients, places, AreBelow, IsRightCombination}
+use Rattle.lt_model.specs.Cones.{coefficients, places, IsRightCombination}
 use Rattle.lt_model.proofs.Integers.{mul_zero_z}
 use Rattle.lt_model.proofs.Ring.{ring, var, ◌⊕◌, ◌⊗◌}
-use Rattle.lt_model.proofs.Inequalities.{cancel_z, mul_le_mul_z}
+use Rattle.lt_model.proofs.Inequalities.{cancel_z}
 use Rattle.lt_model.proofs.Squares.{length-scale}
 use Rattle.lt_model.proofs.Walk.{length-combine}
 use Rattle.lt_tableau.specs.Numbers.{sum_below, column_at}
 use Rattle.lt_tableau.specs.System.{system_of}
-use Rattle.lt_tableau.specs.Table.{Table, IsTableau, units_of}
+use Rattle.lt_tableau.specs.Table.{Table, units_of}
 use Rattle.lt_tableau.proofs.Sums.{lookup_none, lookup_plus, lookup_scale, sum_same}
 use Rattle.lt_tableau.proofs.Starts.{length-system}
 use Rattle.lt_lp.specs.Rule.{objective_of, IsReady}
@@ -105,56 +105,68 @@ case_few t normals k d c p =
 pub right_combination : (t : Table) (normals : List (List ℤ)) (k d : ℕ) (form : List ℤ) (factor : ℤ) (terms : List (ℕ × ℤ)) → IsCase t normals k d → objective_of t ≡ pos 0 → ((j : ℕ) → j < length normals → pos 0 <ℤ dot (column_at normals j) form) →
     ((c : ℕ) → nat_abs (value_of t c) < 2 ^ 62) → nat_abs (scale_of t) < 2 ^ 62 → places terms ≡ places (terms_of k t) → IsReduced (scale_of t ∷ coefficients (terms_of k t)) (factor ∷ coefficients terms) → IsRightCombination d normals k factor terms
 right_combination t normals k d form factor terms c o g small least ps r = record {
-    some = some;
-    few = rw (sym (length-map terms (λ p. p.0)), ps, length-map (terms_of k t) (λ p. p.0)) (case_few t normals k d c (case_scale t normals k d form c o g));
-    ascending = subst (λ (xs : List ℕ). IsStrictlySortedBy nat_cmp xs) (sym ps) (terms_ascend k (value_of t) 0 (units_of t - 2));
-    within = within;
-    other = subst (λ (xs : List ℕ). All (λ i. i ≢ k) xs) (sym ps) (terms_other k (value_of t) 0 (units_of t - 2));
-    positive = positive_scale r.factor (coefficients terms) r.some (subst (All (λ x. pos 0 <ℤ x)) rest (terms_positive k (value_of t) 0 (units_of t - 2) (value_nonneg t c.ready)));
-    below = reduced_below (2 ^ 62) (scale_of t ∷ coefficients (terms_of k t)) (factor ∷ coefficients terms) r (All-cons (λ x. nat_abs x < 2 ^ 62) (scale_of t) (coefficients (terms_of k t)) least (terms_below k (2 ^ 62) (value_of t) 0 (units_of t - 2) small));
-    primitive = r.primitive;
-    sum = same_lists (combine (coefficients terms) vs) (scale factor (get_or normals k [])) (long ∙ sym (length-scale factor (get_or normals k []) ∙ c.lengths k c.place)) (λ q l. number q (rw (length-scale factor (get_or normals k []), c.lengths k c.place) at l));
-  }
+  some = some;
+  few = rw (sym (length-map terms (λ p. p.0)), ps, length-map (terms_of k t) (λ p. p.0)) (case_few t normals k d c (case_scale t normals k d form c o g));
+  ascending = subst (λ (xs : List ℕ). IsStrictlySortedBy nat_cmp xs) (sym ps) (terms_ascend k (value_of t) 0 (units_of t - 2));
+  within = within;
+  other = subst (λ (xs : List ℕ). All (λ i. i ≢ k) xs) (sym ps) (terms_other k (value_of t) 0 (units_of t - 2));
+  positive = positive_scale r.factor (coefficients terms) r.some (subst (All (λ x. pos 0 <ℤ x)) rest (terms_positive k (value_of t) 0 (units_of t - 2) (value_nonneg t c.ready)));
+  below = reduced_below (2 ^ 62) (scale_of t ∷ coefficients (terms_of k t)) (factor ∷ coefficients terms) r (All-cons (λ x. nat_abs x < 2 ^ 62) (scale_of t) (coefficients (terms_of k t)) least (terms_below k (2 ^ 62) (value_of t) 0 (units_of t - 2) small));
+  primitive = r.primitive;
+  sum = same_lists (combine (coefficients terms) vs) (scale factor (get_or normals k [])) (long ∙ sym (length-scale factor (get_or normals k []) ∙ c.lengths k c.place)) (λ q l. number q (rw (length-scale factor (get_or normals k []), c.lengths k c.place) at l));
+}
   where
     u : units_of t ≡ suc (length normals)
     u = units_case t normals k d c
+
     e : units_of t - 2 ≡ length normals - 1
     e = let a = u in omega arith
+
     f : units_of t - 1 ≡ length normals
     f = let a = u in omega arith
+
     head : scale_of t ≡ pos r.factor *ℤ factor
     head = (front (scale_of t) (pos r.factor *ℤ factor) (coefficients (terms_of k t)) (scale (pos r.factor) (coefficients terms)) r.times).head
+
     rest : coefficients (terms_of k t) ≡ scale (pos r.factor) (coefficients terms)
     rest = (front (scale_of t) (pos r.factor *ℤ factor) (coefficients (terms_of k t)) (scale (pos r.factor) (coefficients terms)) r.times).rest
+
     some : pos 0 <ℤ factor
     some = positive_factor r.factor factor r.some (subst (λ (x : ℤ). pos 0 <ℤ x) head (case_scale t normals k d form c o g))
+
     within : All (λ i. i < length normals) (places terms)
     within = subst (λ (xs : List ℕ). All (λ i. i < length normals) xs) (sym ps) (terms_within k (length normals) (value_of t) 0 (units_of t - 2) (let a = u in let b = c.place in omega arith))
+
     vs : List (List ℤ)
     vs = map (λ i. get_or normals i []) (places terms)
+
     x : IsMix t normals k (numbers_of_form d)
     x = mixed t normals k (numbers_of_form d) c.ready c.system c.rows c.place c.few c.lengths o
+
     some_terms : 0 < length (coefficients (terms_of k t))
     some_terms =
         let a = terms_total k (value_of t) 0 (units_of t - 2) in
         let s : sum_below (length normals - 1) (λ (i : ℕ). value_of t (0 + i)) ≡ sum_below (length normals - 1) (value_of t) = sum_same (length normals - 1) (λ (i : ℕ). value_of t (0 + i)) (value_of t) (λ q h. ap (value_of t) (let z : 0 + q ≡ q = omega arith in z)) in
         occupied 0 (coefficients (terms_of k t)) (rw (a, e, s, x.whole) c.ready.tableau.positive)
+
     one_each : length (coefficients terms) ≡ length vs
     one_each = length-map terms (λ p. p.1) ∙ sym (length-map (places terms) (λ i. get_or normals i []) ∙ length-map terms (λ p. p.0))
+
     long : length (combine (coefficients terms) vs) ≡ numbers_of_form d
     long =
         let l : length (coefficients (terms_of k t)) ≡ length (coefficients terms) = ap (length {A = ℤ}) rest ∙ length-scale (pos r.factor) (coefficients terms) in
         let a = some_terms in
         length-combine (numbers_of_form d) (coefficients terms) vs (all_of_dimension (numbers_of_form d) normals (places terms) c.lengths within) one_each (rw (sym one_each, sym l) a)
+
     number : (q : ℕ) → q < numbers_of_form d → lookup (combine (coefficients terms) vs) q ≡ lookup (scale factor (get_or normals k [])) q
     number q l =
         let a = terms_sum normals k (value_of t) 0 (length normals - 1) q c.place (let b = c.place in omega arith) in
         let s : sum_below (length normals - 1) (λ (i : ℕ). value_of t (0 + i) *ℤ lookup (column_at (remove normals k) (0 + i)) q) ≡ sum_below (length normals - 1) (λ (i : ℕ). value_of t i *ℤ lookup (column_at (remove normals k) i) q) =
-            sum_same (length normals - 1) (λ (i : ℕ). value_of t (0 + i) *ℤ lookup (column_at (remove normals k) (0 + i)) q) (λ (i : ℕ). value_of t i *ℤ lookup (column_at (remove normals k) i) q) (λ i h. ap (λ (j : ℕ). value_of t j *ℤ lookup (column_at (remove normals k) j) q) (let z : 0 + i ≡ i = omega arith in z)) in
+        sum_same (length normals - 1) (λ (i : ℕ). value_of t (0 + i) *ℤ lookup (column_at (remove normals k) (0 + i)) q) (λ (i : ℕ). value_of t i *ℤ lookup (column_at (remove normals k) i) q) (λ i h. ap (λ (j : ℕ). value_of t j *ℤ lookup (column_at (remove normals k) j) q) (let z : 0 + i ≡ i = omega arith in z)) in
         let m : lookup (combine (coefficients (terms_of k t)) vs) q ≡ scale_of t *ℤ lookup (column_at normals k) q =
-            subst (λ (ys : List ℕ). lookup (combine (coefficients (terms_of k t)) (map (λ i. get_or normals i []) ys)) q ≡ scale_of t *ℤ lookup (column_at normals k) q) (sym ps)
-            (subst (λ (j : ℕ). lookup (combine (coefficients (terms_from k (value_of t) 0 j)) (map (λ i. get_or normals i []) (places (terms_from k (value_of t) 0 j)))) q ≡ (value_of t j -ℤ value_of t (units_of t - 1)) *ℤ lookup (column_at normals k) q) (sym e)
-            (rw f (a ∙ s ∙ x.sum q l))) in
+        subst (λ (ys : List ℕ). lookup (combine (coefficients (terms_of k t)) (map (λ i. get_or normals i []) ys)) q ≡ scale_of t *ℤ lookup (column_at normals k) q) (sym ps)
+        (subst (λ (j : ℕ). lookup (combine (coefficients (terms_from k (value_of t) 0 j)) (map (λ i. get_or normals i []) (places (terms_from k (value_of t) 0 j)))) q ≡ (value_of t j -ℤ value_of t (units_of t - 1)) *ℤ lookup (column_at normals k) q) (sym e)
+        (rw f (a ∙ s ∙ x.sum q l))) in
         let p : pos 0 <ℤ pos r.factor = (let b = r.some in omega (arith, ints)) in
         cancel_z (pos r.factor) (lookup (combine (coefficients terms) vs) q) (lookup (scale factor (get_or normals k [])) q) p
         (sym (combine-scale (pos r.factor) (coefficients terms) vs q) ∙ ap (λ (ys : List ℤ). lookup (combine ys vs) q) (sym rest) ∙ m

@@ -1,23 +1,21 @@
 -- The verdict of a tableau at which the rule stops.
-use Rattle.std.proofs.Common.{◌≡◌, ◌≢◌, refl, sym, ◌∙◌, ap, inl, inr, ℕ, zero, suc, ◌+◌, ◌-◌, ◌≤◌, ◌<◌, ◌^◌, ◌*◌, ℤ, pos, ◌-ℤ◌, ◌≤ℤ◌, ◌<ℤ◌, arith, List, [], ◌∷◌, length, get_or, cond, nat_le, Bool, true, false, nat_abs}
+use Rattle.std.proofs.Common.{◌≡◌, ◌≢◌, ◌∙◌, ap, inl, inr, ℕ, zero, suc, ◌+◌, ◌-◌, ◌≤◌, ◌<◌, ◌^◌, ◌*◌, ℤ, pos, ◌-ℤ◌, ◌≤ℤ◌, arith, List, [], length, get_or, cond, nat_le, Bool, true, false, nat_abs}
 use Rattle.std.specs.List.{All}
 use Rattle.std.proofs.lemmas.Int.{ints}
-use Rattle.lt_model.specs.Vectors.{dot}
 use Rattle.lt_model.specs.Forms.{numbers_of_form}
 use Rattle.lt_model.specs.Cones.{Verdict, wall, combination, IsRightVerdict, IsRightWall, AreBelow}
-use Rattle.lt_tableau.specs.Numbers.{column_at}
 use Rattle.lt_tableau.specs.System.{system_of}
 use Rattle.lt_tableau.specs.Table.{Table, right_of, basic_of, units_of}
 use Rattle.lt_lp.specs.Rule.{objective_of, gain_of, turned_gains, IsReady, IsStopped}
 use Rattle.lt_lp.specs.Reduced.{IsReduced}
 use Rattle.lt_lp.specs.Positive.{IsPositiveAt}
-use Rattle.lt_lp.specs.Terms.{value_of, scale_of, terms_of, IsCombinationOf}
+use Rattle.lt_lp.specs.Terms.{value_of, IsCombinationOf}
 use Rattle.lt_lp.proofs.Values.{values_not_negative}
 use Rattle.lt_lp.proofs.Mixes.{sum_nonneg, value_small}
 use Rattle.lt_lp.proofs.WallSigns.{WallSigns, wall_signs}
 use Rattle.lt_lp.proofs.Forms.{wall_some}
 use Rattle.lt_lp.proofs.Turned.{right_wall}
-use Rattle.lt_lp.proofs.Combined.{IsCase, right_combination, case_scale, case_few}
+use Rattle.lt_lp.proofs.Combined.{IsCase, right_combination}
 
 objective_nonneg : (t : Table) → IsReady t → pos 0 ≤ℤ objective_of t
 objective_nonneg t w = sum_nonneg t.rows (λ (row : ℕ). cond (nat_le (units_of t) (basic_of t row)) (right_of t row) (pos 0)) (λ q l. pick (nat_le (units_of t) (basic_of t q)) (right_of t q) (values_not_negative t w q l))
@@ -61,6 +59,7 @@ decided_combination t normals k d form (combination factor terms) c o p h =
   where
     less : (x : ℤ) → nat_abs x ≤ 22 * 2 ^ 56 → nat_abs x < 2 ^ 62
     less x h = omega arith
+
     less_two : (x y : ℤ) → nat_abs x ≤ 22 * 2 ^ 56 → nat_abs y ≤ 22 * 2 ^ 56 → nat_abs (x -ℤ y) < 2 ^ 62
     less_two x y h k = omega (arith, ints)
 

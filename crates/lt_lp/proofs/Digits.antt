@@ -1,8 +1,7 @@
 -- Fractions of small denominators as whole digits, and numbers of digits in lexicographic order.
-use Rattle.std.proofs.Common.{◌≡◌, refl, sym, ◌∙◌, ap, ℕ, zero, suc, ◌+◌, ◌*◌, ◌/◌, ◌≤◌, ◌<◌, arith, mul-le-mul_left, mul-le-mul_right}
+use Rattle.std.proofs.Common.{◌≡◌, sym, ap, ℕ, zero, suc, ◌*◌, ◌/◌, ◌≤◌, ◌<◌, arith, mul-le-mul_right}
 use Rattle.std.proofs.Math.Nat.{le_of_mul-le-mul_right}
 use Rattle.std.proofs.lemmas.Nat.{le-div}
-use native.Mathlib.Decide.{dec_le}
 use Rattle.lt_lp.specs.Rule.{power, digits}
 
 product_less : (a b c e k q : ℕ) → b * e ≤ k → a * e < c * b → q * b ≤ a * k → (suc q * e) * b ≤ (c * k) * b

@@ -1,16 +1,14 @@
 -- The pivot rule: lists stay positive, and the measure falls.
-use Rattle.std.proofs.Common.{subst, ◌≡◌, ◌≢◌, refl, sym, ◌∙◌, ap, ap₂, ℕ, zero, suc, ◌+◌, ◌-◌, ◌*◌, ◌/◌, ◌≤◌, ◌<◌, ◌^◌, ℤ, pos, negsuc, ◌+ℤ◌, ◌-ℤ◌, ◌*ℤ◌, ◌≤ℤ◌, ◌<ℤ◌, neg_ℤ, arith, List, [], ◌∷◌, map, length, get_or, set, cond, nat_le, Bool, true, false, nat_abs, get_or-set_same, get_or-set_other, lit<, lit≤, mul-le-mul}
-use Rattle.std.proofs.lemmas.Int.{ints, by_lt_z, unsigned_abs-mul}
+use Rattle.std.proofs.Common.{subst, ◌≡◌, ◌≢◌, refl, sym, ◌∙◌, ap, ap₂, ℕ, zero, suc, ◌-◌, ◌*◌, ◌/◌, ◌≤◌, ◌<◌, ◌^◌, ℤ, pos, negsuc, ◌+ℤ◌, ◌-ℤ◌, ◌*ℤ◌, ◌≤ℤ◌, ◌<ℤ◌, neg_ℤ, arith, [], ◌∷◌, length, cond, nat_le, Bool, true, false, nat_abs, get_or-set_same, get_or-set_other, lit≤, mul-le-mul}
+use Rattle.std.proofs.lemmas.Int.{ints, by_lt_z}
 use Rattle.std.proofs.lemmas.Bool.Decides.{nat_tests}
 use native.Mathlib.Decide.{ℕ_discrete, dec_le}
-use Rattle.lt_model.specs.Padded.{lookup}
-use Rattle.lt_tableau.specs.Numbers.{sum_below, IsPivoted}
-use Rattle.lt_tableau.specs.Table.{Table, IsTableau, entry_of, right_of, basic_of, count_of, units_of}
-use Rattle.lt_tableau.specs.Numbers.{column_at}
-use Rattle.lt_lp.specs.Rule.{at_unit, unit_sum, objective_of, gain_of, number_of, total_of, digit_of, measure_of, digits, IsLexPositive, IsBefore, IsLeaving, IsPivotOf, IsReady}
-use Rattle.lt_model.proofs.Integers.{mul_zero_z, zero_mul_z, mul_comm_z}
+use Rattle.lt_tableau.specs.Numbers.{sum_below}
+use Rattle.lt_tableau.specs.Table.{Table, IsTableau, entry_of, basic_of, count_of, units_of}
+use Rattle.lt_lp.specs.Rule.{at_unit, unit_sum, gain_of, number_of, total_of, digit_of, measure_of, digits, IsLexPositive, IsLeaving, IsPivotOf}
+use Rattle.lt_model.proofs.Integers.{mul_zero_z}
 use Rattle.lt_model.proofs.Ring.{ring, ring_by, ring_by_two, var, num, neg, ◌⊕◌, ◌⊖◌, ◌⊗◌}
-use Rattle.lt_model.proofs.Inequalities.{mul_pos_z, mul_lt_mul_z, mul_le_mul_z, mul_nonneg_z, cancel_z, le_of_mul_le_mul_z, cancel_nonzero_z}
+use Rattle.lt_model.proofs.Inequalities.{mul_pos_z, mul_le_mul_z, mul_nonneg_z, cancel_z}
 use Rattle.lt_lp.proofs.Digits.{fraction_less, fraction_same, digits_less}
 
 -- ---- the numbers of a row after a pivot
@@ -37,22 +35,24 @@ positive_step t new p e r w h v l a b = pick (ℕ_discrete r p)
       positive = from_product t.den _ _ w.positive (mul_pos_z _ _ h.positive a.positive) (number_turned t new p e v r a.at n ∙ rw z (ring (entry_of t p e ∷ number_of t r a.at ∷ number_of t p a.at ∷ []) (var 0 ⊗ var 1 ⊖ num (pos 0) ⊗ var 2) (var 0 ⊗ var 1) tt));
       before = λ m k. from_zero t.den _ w.positive (number_turned t new p e v r m n ∙ rw (a.before m k, z) (ring (entry_of t p e ∷ number_of t p m ∷ []) (var 0 ⊗ num (pos 0) ⊖ num (pos 0) ⊗ var 1) (num (pos 0)) tt));
     }
+
     negative : r ≢ p → entry_of t r e <ℤ pos 0 → Dec (b.at ≤ a.at) → IsLexPositive new r
     negative n z (yes q) = record {
       at = b.at;
       at_in = rw v.rows b.at_in;
       positive =
-        let f : pos 0 ≤ℤ number_of t r b.at = upto (dec_le a.at b.at) in
-        let g = mul_nonneg_z (entry_of t p e) (number_of t r b.at) (omega (arith, ints, h.positive)) f in
-        let i : pos 0 <ℤ (neg_ℤ (entry_of t r e) *ℤ number_of t p b.at) = mul_pos_z (neg_ℤ (entry_of t r e)) (number_of t p b.at) (omega (arith, ints)) b.positive in
-        let j : entry_of t p e *ℤ number_of t r b.at -ℤ entry_of t r e *ℤ number_of t p b.at ≡ entry_of t p e *ℤ number_of t r b.at +ℤ neg_ℤ (entry_of t r e) *ℤ number_of t p b.at =
-            ring (entry_of t p e ∷ number_of t r b.at ∷ entry_of t r e ∷ number_of t p b.at ∷ []) (var 0 ⊗ var 1 ⊖ var 2 ⊗ var 3) (var 0 ⊗ var 1 ⊕ neg (var 2) ⊗ var 3) tt in
-        from_product t.den _ _ w.positive (positive_sum _ _ g i) (number_turned t new p e v r b.at n ∙ j);
+          let f : pos 0 ≤ℤ number_of t r b.at = upto (dec_le a.at b.at) in
+          let g = mul_nonneg_z (entry_of t p e) (number_of t r b.at) (omega (arith, ints, h.positive)) f in
+          let i : pos 0 <ℤ (neg_ℤ (entry_of t r e) *ℤ number_of t p b.at) = mul_pos_z (neg_ℤ (entry_of t r e)) (number_of t p b.at) (omega (arith, ints)) b.positive in
+          let j : entry_of t p e *ℤ number_of t r b.at -ℤ entry_of t r e *ℤ number_of t p b.at ≡ entry_of t p e *ℤ number_of t r b.at +ℤ neg_ℤ (entry_of t r e) *ℤ number_of t p b.at =
+          ring (entry_of t p e ∷ number_of t r b.at ∷ entry_of t r e ∷ number_of t p b.at ∷ []) (var 0 ⊗ var 1 ⊖ var 2 ⊗ var 3) (var 0 ⊗ var 1 ⊕ neg (var 2) ⊗ var 3) tt in
+          from_product t.den _ _ w.positive (positive_sum _ _ g i) (number_turned t new p e v r b.at n ∙ j);
       before = λ m k. from_zero t.den _ w.positive (number_turned t new p e v r m n ∙ rw (a.before m (omega arith), b.before m k) (ring (entry_of t p e ∷ entry_of t r e ∷ []) (var 0 ⊗ num (pos 0) ⊖ var 1 ⊗ num (pos 0)) (num (pos 0)) tt));
     }
       where
         positive_sum : (x y : ℤ) → pos 0 ≤ℤ x → pos 0 <ℤ y → pos 0 <ℤ (x +ℤ y)
         positive_sum x y f g = omega (arith, ints)
+
         upto : Dec (a.at ≤ b.at) → pos 0 ≤ℤ number_of t r b.at
         upto (yes o) = let s : a.at ≡ b.at = omega arith in let f = a.positive in rw (← s) (omega (arith, ints))
         upto (no o) = rw (a.before b.at (omega arith)) (omega (arith, ints))
@@ -62,6 +62,7 @@ positive_step t new p e r w h v l a b = pick (ℕ_discrete r p)
       positive = from_product t.den _ _ w.positive (mul_pos_z _ _ h.positive a.positive) (number_turned t new p e v r a.at n ∙ rw (b.before a.at (omega arith)) (ring (entry_of t p e ∷ number_of t r a.at ∷ entry_of t r e ∷ []) (var 0 ⊗ var 1 ⊖ var 2 ⊗ num (pos 0)) (var 0 ⊗ var 1) tt));
       before = λ m k. from_zero t.den _ w.positive (number_turned t new p e v r m n ∙ rw (a.before m k, b.before m (omega arith)) (ring (entry_of t p e ∷ entry_of t r e ∷ []) (var 0 ⊗ num (pos 0) ⊖ var 1 ⊗ num (pos 0)) (num (pos 0)) tt));
     }
+
     least : r ≢ p → pos 0 <ℤ entry_of t r e → IsLexPositive new r
     least n z =
         let c = h.least r l n z in
@@ -75,8 +76,10 @@ positive_step t new p e r w h v l a b = pick (ℕ_discrete r p)
       where
         difference_positive : (x y : ℤ) → x <ℤ y → pos 0 <ℤ (y -ℤ x)
         difference_positive x y f = omega (arith, ints)
+
         no_difference : (u x s y : ℤ) → y *ℤ s ≡ x *ℤ u → u *ℤ x -ℤ s *ℤ y ≡ pos 0
         no_difference u x s y f = ring_by (u ∷ x ∷ s ∷ y ∷ []) (var 0 ⊗ var 1 ⊖ var 2 ⊗ var 3) (num (pos 0)) (num (negsuc 0)) (var 3 ⊗ var 2) (var 1 ⊗ var 0) tt f
+
     pick : Dec (r ≡ p) → IsLexPositive new r
     pick (yes q) = rw q record {
       at = b.at;
@@ -114,12 +117,15 @@ total_row t new p e w h l v m r k = pick (ℕ_discrete r p)
   where
     own : basic_of new p ≡ e
     own = let b : p < length t.basic = rw w.basic_count h.row_in in rw (v.basic) (get_or-set_same t.basic p e 0 b)
+
     in_own : (b : Bool) → t.den *ℤ pos 0 ≡ entry_of t p e *ℤ cond b (number_of t p m) (pos 0) -ℤ cond b (entry_of t p e) (pos 0) *ℤ number_of t p m
     in_own true = ring (t.den ∷ entry_of t p e ∷ number_of t p m ∷ []) (var 0 ⊗ num (pos 0)) (var 1 ⊗ var 2 ⊖ var 1 ⊗ var 2) tt
     in_own false = ring (t.den ∷ entry_of t p e ∷ number_of t p m ∷ []) (var 0 ⊗ num (pos 0)) (var 1 ⊗ num (pos 0) ⊖ num (pos 0) ⊗ var 2) tt
+
     in_other : r ≢ p → (b : Bool) → t.den *ℤ cond b (number_of new r m) (pos 0) ≡ entry_of t p e *ℤ cond b (number_of t r m) (pos 0) -ℤ cond b (entry_of t r e) (pos 0) *ℤ number_of t p m
     in_other n true = number_turned t new p e v r m n
     in_other n false = ring (t.den ∷ entry_of t p e ∷ number_of t p m ∷ []) (var 0 ⊗ num (pos 0)) (var 1 ⊗ num (pos 0) ⊖ num (pos 0) ⊗ var 2) tt
+
     pick : Dec (r ≡ p) → t.den *ℤ at_unit new r (number_of new r m) ≡ entry_of t p e *ℤ at_unit t r (number_of t r m) -ℤ at_unit t r (entry_of t r e) *ℤ number_of t p m
     pick (yes q) =
         let f : at_unit new p (number_of new p m) ≡ pos 0 = ap₂ (λ (u b : ℕ). cond (nat_le u b) (number_of new p m) (pos 0)) (units_same t new p e v) own ∙ ap (λ (b : Bool). cond b (number_of new p m) (pos 0)) (not_unit (units_of t) e l) in
@@ -212,12 +218,13 @@ measure_falls t new p e w w' h l g b v =
     let small : (m : ℕ) → nat_abs (total_of t m) ≤ 22 * 2 ^ 56 = λ m. unit_sum_small t (λ (row : ℕ). number_of t row m) (λ q. w.small q (count_of t - m)) w.few_rows in
     let small' : (m : ℕ) → nat_abs (total_of new m) ≤ 22 * 2 ^ 56 = λ m. unit_sum_small new (λ (row : ℕ). number_of new row m) (λ q. w'.small q (count_of new - m)) w'.few_rows in
     let x = digits_less (2 ^ 240) t.rows (digit_of new) (digit_of t) b.at b.at_in
-        (digit_less (total_of t b.at) (total_of new b.at) t.den new.den (small b.at) (small' b.at) w.positive w'.positive w.den_small w'.den_small (rw d' (fallen (total_of new b.at) t.den (entry_of t p e) (total_of t b.at) (gain_of t e) (number_of t p b.at) (total_turned t new p e w h l v b.at) (mul_pos_z _ _ g b.positive))))
-        (λ m k. digit_same (total_of t m) (total_of new m) t.den new.den (small m) (small' m) w.positive w'.positive (rw d' (level (total_of new m) t.den (entry_of t p e) (total_of t m) (gain_of t e) (number_of t p m) (total_turned t new p e w h l v m) (b.before m k))))
-        (λ m k. digit_small (total_of new m) new.den (small' m) w'.den_small w'.positive) in
+    (digit_less (total_of t b.at) (total_of new b.at) t.den new.den (small b.at) (small' b.at) w.positive w'.positive w.den_small w'.den_small (rw d' (fallen (total_of new b.at) t.den (entry_of t p e) (total_of t b.at) (gain_of t e) (number_of t p b.at) (total_turned t new p e w h l v b.at) (mul_pos_z _ _ g b.positive))))
+    (λ m k. digit_same (total_of t m) (total_of new m) t.den new.den (small m) (small' m) w.positive w'.positive (rw d' (level (total_of new m) t.den (entry_of t p e) (total_of t m) (gain_of t e) (number_of t p m) (total_turned t new p e w h l v m) (b.before m k))))
+    (λ m k. digit_small (total_of new m) new.den (small' m) w'.den_small w'.positive) in
     subst (λ (n : ℕ). digits (2 ^ 240) n (digit_of new) < digits (2 ^ 240) t.rows (digit_of t)) (sym r) x
   where
     fallen : (s' d p s g n : ℤ) → d *ℤ s' ≡ p *ℤ s -ℤ g *ℤ n → pos 0 <ℤ (g *ℤ n) → (s' *ℤ d) <ℤ (s *ℤ p)
     fallen s' d p s g n e h = omega (arith, ints)
+
     level : (s' d p s g n : ℤ) → d *ℤ s' ≡ p *ℤ s -ℤ g *ℤ n → n ≡ pos 0 → s' *ℤ d ≡ s *ℤ p
     level s' d p s g n e h = ring_by_two (s' ∷ d ∷ p ∷ s ∷ g ∷ n ∷ []) (var 0 ⊗ var 1) (var 3 ⊗ var 2) (num (pos 1)) (var 1 ⊗ var 0) (var 2 ⊗ var 3 ⊖ var 4 ⊗ var 5) (num (negsuc 0) ⊗ var 4) (var 5) (num (pos 0)) tt e h

@@ -1,19 +1,19 @@
 -- The wall form of a stopped tableau is not 0, also where the list has one normal.
-use Rattle.std.proofs.Common.{subst, ◌≡◌, ◌≢◌, ◌⊎◌, inl, inr, refl, sym, ◌∙◌, ap, ap₂, ℕ, zero, suc, ◌+◌, ◌-◌, ◌≤◌, ◌<◌, ℤ, pos, negsuc, ◌+ℤ◌, ◌*ℤ◌, ◌≤ℤ◌, ◌<ℤ◌, arith, List, [], ◌∷◌, ◌++◌, map, length, get_or, cond, nat_le, Bool, true, false}
+use Rattle.std.proofs.Common.{◌≡◌, ◌≢◌, ◌⊎◌, inl, inr, refl, sym, ◌∙◌, ap, ap₂, ℕ, zero, suc, ◌+◌, ◌-◌, ◌≤◌, ◌<◌, ℤ, pos, negsuc, ◌+ℤ◌, ◌*ℤ◌, arith, List, [], ◌∷◌, ◌++◌, map, length, cond, nat_le, Bool, true, false}
 use Rattle.std.specs.Prelude.{remove}
 use Rattle.std.proofs.lemmas.Int.{ints}
 use Rattle.std.proofs.lemmas.List.{length-map, get_or-append-add}
 use Rattle.std.proofs.lemmas.List.Edits.{length-remove}
 use native.Mathlib.Decide.{dec_le, ℕ_discrete}
-use Rattle.lt_model.specs.Padded.{lookup, head_z, tail_z}
+use Rattle.lt_model.specs.Padded.{lookup}
 use Rattle.lt_model.specs.Vectors.{dot, scale}
 use Rattle.lt_tableau.specs.Numbers.{sum_below}
 use Rattle.lt_tableau.specs.System.{system_of, counted, normal_column, turned_column, plain_column, unit_column}
-use Rattle.lt_tableau.specs.Table.{Table, IsTableau, entry_of, basic_of, count_of, units_of}
+use Rattle.lt_tableau.specs.Table.{Table, IsTableau, entry_of, basic_of, units_of}
 use Rattle.lt_tableau.specs.Numbers.{column_at}
 use Rattle.lt_lp.specs.Rule.{at_unit, gain_of, listed}
-use Rattle.lt_model.proofs.Integers.{zero_add_z, add_zero_z, zero_mul_z}
-use Rattle.lt_model.proofs.Ring.{ring, ring_by, var, num, ◌⊕◌, ◌⊗◌}
+use Rattle.lt_model.proofs.Integers.{add_zero_z, zero_mul_z}
+use Rattle.lt_model.proofs.Ring.{ring, var, num, ◌⊗◌}
 use Rattle.lt_tableau.proofs.Sums.{lookup_scale}
 use Rattle.lt_tableau.proofs.Sums.{sum_same, sum_zero}
 use Rattle.lt_lp.proofs.Columns.{sum_below_scale}
@@ -52,11 +52,11 @@ twin_different : (t : Table) → IsTableau t → (p : ℕ) → ((q : ℕ) → q 
 twin_different t w p tw a b h k n ea eb =
     let f : ℕ → ℤ = λ (q : ℕ). entry_of t a (units_of t + q) in
     let r : entry_of t a (suc p) ≡ negsuc 0 *ℤ entry_of t a p =
-        w.row_law a (suc p) h
-        ∙ sum_same t.rows (λ (q : ℕ). f q *ℤ lookup (column_at t.system (suc p)) q) (λ (q : ℕ). negsuc 0 *ℤ (f q *ℤ lookup (column_at t.system p) q))
-            (λ q l. ap (λ (z : ℤ). f q *ℤ z) (tw q l) ∙ ring (f q ∷ lookup (column_at t.system p) q ∷ []) (var 0 ⊗ (num (negsuc 0) ⊗ var 1)) (num (negsuc 0) ⊗ (var 0 ⊗ var 1)) tt)
-        ∙ sum_below_scale t.rows (negsuc 0) (λ (q : ℕ). f q *ℤ lookup (column_at t.system p) q)
-        ∙ ap (λ (z : ℤ). negsuc 0 *ℤ z) (sym (w.row_law a p h)) in
+    w.row_law a (suc p) h
+    ∙ sum_same t.rows (λ (q : ℕ). f q *ℤ lookup (column_at t.system (suc p)) q) (λ (q : ℕ). negsuc 0 *ℤ (f q *ℤ lookup (column_at t.system p) q))
+    (λ q l. ap (λ (z : ℤ). f q *ℤ z) (tw q l) ∙ ring (f q ∷ lookup (column_at t.system p) q ∷ []) (var 0 ⊗ (num (negsuc 0) ⊗ var 1)) (num (negsuc 0) ⊗ (var 0 ⊗ var 1)) tt)
+    ∙ sum_below_scale t.rows (negsuc 0) (λ (q : ℕ). f q *ℤ lookup (column_at t.system p) q)
+    ∙ ap (λ (z : ℤ). negsuc 0 *ℤ z) (sym (w.row_law a p h)) in
     let o : entry_of t a p ≡ t.den = ap (entry_of t a) (sym ea) ∙ w.own a h in
     let z : entry_of t a (suc p) ≡ pos 0 = ap (entry_of t a) (sym eb) ∙ w.other b a k h n in
     let d = w.positive in
@@ -72,6 +72,7 @@ some_of_dot (suc m) y (a ∷ x) n = pick (y 0) refl (some_of_dot m (λ (q : ℕ)
         let r = f (λ z. n (ap (λ (v : ℤ). v *ℤ a +ℤ dot (listed m (λ (q : ℕ). y (suc q))) x) e ∙ ap₂ (λ (u v : ℤ). u +ℤ v) (zero_mul_z a) z)) in
         let l = r.1 in
         (suc r.0, omega arith, r.2)
+
     pick : (z : ℤ) → y 0 ≡ z → (dot (listed m (λ (q : ℕ). y (suc q))) x ≢ pos 0 → (q : ℕ) × (q < m) × (y (suc q) ≢ pos 0)) → (q : ℕ) × (q < suc m) × (y q ≢ pos 0)
     pick (pos zero) e f = later e f
     pick (pos (suc b)) e f = (0, omega arith, λ z. omega (arith, ints))
@@ -95,6 +96,7 @@ lone t n w er h u tw = three (kind 0 (omega arith)) (kind 1 (omega arith)) (kind
             let p = w.positive in
             let m : basic_of t r ≢ 2 + n = b in
             inl (basic_of t r - 2, omega arith, λ z. omega (arith, ints))
+
     low : (a b : ℕ) → a < t.rows → b < t.rows → a ≢ b → basic_of t a < 2 → basic_of t b < 2 → ⊥
     low a b h k n x y = pick (ℕ_discrete (basic_of t a) 0) (ℕ_discrete (basic_of t b) 0)
       where
@@ -103,8 +105,10 @@ lone t n w er h u tw = three (kind 0 (omega arith)) (kind 1 (omega arith)) (kind
         pick (yes p) (no q) = twin_different t w 0 tw a b h k n p (omega arith)
         pick (no p) (yes q) = twin_different t w 0 tw b a k h (λ e. n (sym e)) q (omega arith)
         pick (no p) (no q) = basic_different t w a b h k n (omega arith)
+
     top : (a b : ℕ) → a < t.rows → b < t.rows → a ≢ b → basic_of t a ≡ 2 + n → basic_of t b ≡ 2 + n → ⊥
     top a b h k m x y = basic_different t w a b h k m (x ∙ sym y)
+
     three : ((q : ℕ) × (q < n) × (gain_of t (units_of t + q) ≢ pos 0)) ⊎ ((basic_of t 0 < 2) ⊎ (basic_of t 0 ≡ 2 + n)) → ((q : ℕ) × (q < n) × (gain_of t (units_of t + q) ≢ pos 0)) ⊎ ((basic_of t 1 < 2) ⊎ (basic_of t 1 ≡ 2 + n)) → ((q : ℕ) × (q < n) × (gain_of t (units_of t + q) ≢ pos 0)) ⊎ ((basic_of t 2 < 2) ⊎ (basic_of t 2 ≡ 2 + n)) → ((q : ℕ) × (q < n) × (gain_of t (units_of t + q) ≢ pos 0))
     three (inl f) y z = f
     three (inr x) (inl f) z = f
@@ -122,6 +126,7 @@ wall_some t normals k n w es er h two b s g = pick (dec_le 2 (length normals)) (
   where
     from : (i : ℕ) → i < length normals → i ≢ k → ((q : ℕ) × (q < n) × (gain_of t (units_of t + q) ≢ pos 0))
     from i l m = let o = g.others i l m in some_of_dot n (λ (q : ℕ). gain_of t (units_of t + q)) (column_at normals i) (λ z. omega (arith, ints))
+
     pick : Dec (2 ≤ length normals) → Dec (k ≡ 0) → ((q : ℕ) × (q < n) × (gain_of t (units_of t + q) ≢ pos 0))
     pick (yes a) (yes z) = from 1 (omega arith) (λ e. omega arith)
     pick (yes a) (no z) = from 0 (omega arith) (λ e. z (sym e))
@@ -140,6 +145,6 @@ wall_some t normals k n w es er h two b s g = pick (dec_le 2 (length normals)) (
         let cp' : column_at t.system 0 ≡ turned_column x = rw p0 at cp in
         let cq' : column_at t.system 1 ≡ plain_column x = rw p1 at cq in
         lone t n w er two (omega arith) (λ q a.
-            ap (λ (v : List ℤ). lookup v q) cq' ∙ filled_in 22 (x ++ pos 0 ∷ []) q (omega arith) ∙ append_zero x q
-            ∙ ring (lookup x q ∷ []) (var 0) (num (negsuc 0) ⊗ (num (negsuc 0) ⊗ var 0)) tt
-            ∙ ap (λ (v : ℤ). negsuc 0 *ℤ v) (sym (lookup_scale (negsuc 0) x q) ∙ sym (filled_in 22 (scale (negsuc 0) x) q (omega arith)) ∙ ap (λ (v : List ℤ). lookup v q) (sym cp')))
+        ap (λ (v : List ℤ). lookup v q) cq' ∙ filled_in 22 (x ++ pos 0 ∷ []) q (omega arith) ∙ append_zero x q
+        ∙ ring (lookup x q ∷ []) (var 0) (num (negsuc 0) ⊗ (num (negsuc 0) ⊗ var 0)) tt
+        ∙ ap (λ (v : ℤ). negsuc 0 *ℤ v) (sym (lookup_scale (negsuc 0) x q) ∙ sym (filled_in 22 (scale (negsuc 0) x) q (omega arith)) ∙ ap (λ (v : List ℤ). lookup v q) (sym cp')))

@@ -1,17 +1,17 @@
 -- The row that leaves: there is one, and no two are equal. The first tableau is ready.
-use Rattle.std.proofs.Common.{subst, ◌≡◌, ◌≢◌, refl, sym, ◌∙◌, ap, ℕ, zero, suc, ◌+◌, ◌-◌, ◌*◌, ◌≤◌, ◌<◌, ◌^◌, ℤ, pos, negsuc, ◌+ℤ◌, ◌-ℤ◌, ◌*ℤ◌, ◌≤ℤ◌, ◌<ℤ◌, arith, List, [], ◌∷◌, length, get_or, cond, nat_le, Bool, true, false, nat_abs}
+use Rattle.std.proofs.Common.{subst, ◌≡◌, ◌≢◌, sym, ◌∙◌, ap, ℕ, zero, suc, ◌+◌, ◌-◌, ◌≤◌, ◌<◌, ℤ, pos, negsuc, ◌*ℤ◌, ◌≤ℤ◌, ◌<ℤ◌, arith, [], ◌∷◌, cond, nat_le, Bool, true, false}
 use Rattle.std.proofs.lemmas.Int.{ints, by_lt_z}
 use native.Mathlib.Decide.{ℕ_discrete, dec_le}
 use Rattle.lt_model.specs.Padded.{lookup}
 use Rattle.lt_model.specs.Vectors.{unit}
 use Rattle.lt_tableau.specs.Numbers.{sum_below}
-use Rattle.lt_tableau.specs.Table.{Table, IsTableau, entry_of, right_of, basic_of, count_of, units_of}
+use Rattle.lt_tableau.specs.Table.{Table, IsTableau, entry_of, basic_of, count_of, units_of}
 use Rattle.lt_tableau.specs.Numbers.{column_at}
 use Rattle.lt_tableau.specs.Kept.{IsStart}
 use Rattle.lt_lp.specs.Rule.{at_unit, unit_sum, number_of, IsLexPositive, IsBefore, IsLeaving, IsPivotOf, IsReady}
-use Rattle.lt_model.proofs.Integers.{mul_zero_z, zero_mul_z}
-use Rattle.lt_model.proofs.Ring.{ring, ring_by, ring_by_two, var, num, ◌⊕◌, ◌⊖◌, ◌⊗◌}
-use Rattle.lt_model.proofs.Inequalities.{mul_pos_z, mul_lt_mul_z, mul_le_mul_z, cancel_z, le_of_mul_le_mul_z}
+use Rattle.lt_model.proofs.Integers.{zero_mul_z}
+use Rattle.lt_model.proofs.Ring.{ring, ring_by, ring_by_two, var, num, ◌⊕◌, ◌⊗◌}
+use Rattle.lt_model.proofs.Inequalities.{mul_pos_z, mul_lt_mul_z, mul_le_mul_z, cancel_z}
 use Rattle.lt_tableau.proofs.Sums.{unit_same, unit_other}
 use Rattle.lt_lp.proofs.Falls.{positive_step}
 
@@ -34,7 +34,7 @@ no_tie t e a b w ha hb n p h =
     let s = w.row_law b c hb in
     let v = w.wide in
     let u : (q : ℕ) → q < t.rows → entry_of t a (units_of t + q) *ℤ entry_of t b e ≡ entry_of t b (units_of t + q) *ℤ entry_of t a e =
-        λ q l. (let i : units_of t + q ≡ count_of t - (t.rows - q) = omega arith in rw i (h (t.rows - q) (omega arith))) in
+    λ q l. (let i : units_of t + q ≡ count_of t - (t.rows - q) = omega arith in rw i (h (t.rows - q) (omega arith))) in
     let x = sum_scaled t.rows (entry_of t b e) (entry_of t a e) (λ (q : ℕ). entry_of t a (units_of t + q)) (λ (q : ℕ). entry_of t b (units_of t + q)) (λ (q : ℕ). lookup (column_at t.system c) q) u in
     let y : entry_of t a c *ℤ entry_of t b e ≡ entry_of t b c *ℤ entry_of t a e = rw (r, s) x in
     let o = w.own a ha in
@@ -63,6 +63,7 @@ before_before t e a b c pa pb pc x y = pick (dec_le x.at y.at)
   where
     both : (u v w p q r : ℤ) → pos 0 <ℤ q → u *ℤ q ≡ v *ℤ p → v *ℤ r ≡ w *ℤ q → u *ℤ r ≡ w *ℤ p
     both u v w p q r h f g = cancel_z q (u *ℤ r) (w *ℤ p) h (ring_by_two (u ∷ v ∷ w ∷ p ∷ q ∷ r ∷ []) (var 4 ⊗ (var 0 ⊗ var 5)) (var 4 ⊗ (var 2 ⊗ var 3)) (var 5) (var 0 ⊗ var 4) (var 1 ⊗ var 3) (var 3) (var 1 ⊗ var 5) (var 2 ⊗ var 4) tt f g)
+
     lesser : (q x y : ℤ) → pos 0 <ℤ q → (q *ℤ x) <ℤ (q *ℤ y) → x <ℤ y
     lesser q x y h l = by_lt_z x y (λ k. k) (λ k. absurd (under q x y h l k))
       where
@@ -71,6 +72,7 @@ before_before t e a b c pa pb pc x y = pick (dec_le x.at y.at)
           where
             mul_le : (q y x : ℤ) → pos 0 <ℤ q → y ≤ℤ x → (q *ℤ y) ≤ℤ (q *ℤ x)
             mul_le q y x h k = mul_le_mul_z q y x (omega (arith, ints)) k
+
     -- u q < v p and v r = w q
     left : (u v w p q r : ℤ) → pos 0 <ℤ q → pos 0 <ℤ r → (u *ℤ q) <ℤ (v *ℤ p) → v *ℤ r ≡ w *ℤ q → (u *ℤ r) <ℤ (w *ℤ p)
     left u v w p q r h k f g =
@@ -78,6 +80,7 @@ before_before t e a b c pa pb pc x y = pick (dec_le x.at y.at)
         let i : r *ℤ (u *ℤ q) ≡ q *ℤ (u *ℤ r) = ring (u ∷ q ∷ r ∷ []) (var 2 ⊗ (var 0 ⊗ var 1)) (var 1 ⊗ (var 0 ⊗ var 2)) tt in
         let j : r *ℤ (v *ℤ p) ≡ q *ℤ (w *ℤ p) = ring_by (v ∷ w ∷ p ∷ q ∷ r ∷ []) (var 4 ⊗ (var 0 ⊗ var 2)) (var 3 ⊗ (var 1 ⊗ var 2)) (var 2) (var 0 ⊗ var 4) (var 1 ⊗ var 3) tt g in
         lesser q (u *ℤ r) (w *ℤ p) h (rw (i, j) at m)
+
     -- u q = v p and v r < w q
     right : (u v w p q r : ℤ) → pos 0 <ℤ q → pos 0 <ℤ p → u *ℤ q ≡ v *ℤ p → (v *ℤ r) <ℤ (w *ℤ q) → (u *ℤ r) <ℤ (w *ℤ p)
     right u v w p q r h k f g =
@@ -85,6 +88,7 @@ before_before t e a b c pa pb pc x y = pick (dec_le x.at y.at)
         let i : p *ℤ (v *ℤ r) ≡ q *ℤ (u *ℤ r) = ring_by (u ∷ v ∷ p ∷ q ∷ r ∷ []) (var 2 ⊗ (var 1 ⊗ var 4)) (var 3 ⊗ (var 0 ⊗ var 4)) (num (negsuc 0) ⊗ var 4) (var 0 ⊗ var 3) (var 1 ⊗ var 2) tt f in
         let j : p *ℤ (w *ℤ q) ≡ q *ℤ (w *ℤ p) = ring (w ∷ p ∷ q ∷ []) (var 1 ⊗ (var 0 ⊗ var 2)) (var 2 ⊗ (var 0 ⊗ var 1)) tt in
         lesser q (u *ℤ r) (w *ℤ p) h (rw (i, j) at m)
+
     -- both less
     strict : (u v w p q r : ℤ) → pos 0 <ℤ q → pos 0 <ℤ r → pos 0 <ℤ p → (u *ℤ q) <ℤ (v *ℤ p) → (v *ℤ r) <ℤ (w *ℤ q) → (u *ℤ r) <ℤ (w *ℤ p)
     strict u v w p q r h k l f g =
@@ -94,8 +98,10 @@ before_before t e a b c pa pb pc x y = pick (dec_le x.at y.at)
         let s : r *ℤ (v *ℤ p) ≡ p *ℤ (v *ℤ r) = ring (v ∷ p ∷ r ∷ []) (var 2 ⊗ (var 0 ⊗ var 1)) (var 1 ⊗ (var 0 ⊗ var 2)) tt in
         let j : p *ℤ (w *ℤ q) ≡ q *ℤ (w *ℤ p) = ring (w ∷ p ∷ q ∷ []) (var 1 ⊗ (var 0 ⊗ var 2)) (var 2 ⊗ (var 0 ⊗ var 1)) tt in
         lesser q (u *ℤ r) (w *ℤ p) h (omega (arith, ints))
+
     level : (m : ℕ) → m < x.at → m < y.at → number_of t a m *ℤ entry_of t c e ≡ number_of t c m *ℤ entry_of t a e
     level m l k = both (number_of t a m) (number_of t b m) (number_of t c m) (entry_of t a e) (entry_of t b e) (entry_of t c e) pb (x.before m l) (y.before m k)
+
     pick : Dec (x.at ≤ y.at) → IsBefore t e a c
     pick (yes l) = record {
       at = x.at;
@@ -134,11 +140,13 @@ ready_start t first n w s r c f = record {
         let v = s.wide in
         let i : count_of t - m ≡ first + q = omega arith in
         rw i (c row (first + q) ∙ s.units q row l)
+
     right_number : (row : ℕ) → row < t.rows → number_of t row 0 ≡ lookup (unit 22 n) row
     right_number row l =
         let v = s.wide in
         let i : count_of t - 0 ≡ first + t.rows = omega arith in
         rw i (c row (first + t.rows) ∙ f row l)
+
     pick : (row : ℕ) → row < t.rows → Dec (row ≡ n) → IsLexPositive t row
     pick row l (yes e) = record {
       at = 0;

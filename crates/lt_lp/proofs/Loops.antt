@@ -1,14 +1,13 @@
 -- The steps of the loops of the rule.
-use Rattle.std.proofs.Common.{◌≡◌, ◌≢◌, refl, sym, ◌∙◌, ap, ℕ, zero, suc, ◌+◌, ◌-◌, ◌*◌, ◌≤◌, ◌<◌, ◌^◌, ℤ, pos, ◌+ℤ◌, ◌*ℤ◌, ◌≤ℤ◌, ◌<ℤ◌, arith, cond, nat_le, Bool, true, false, nat_abs, add-one, FitsSigned, mul-le-mul}
+use Rattle.std.proofs.Common.{◌≡◌, ◌≢◌, refl, sym, ◌∙◌, ap, ℕ, zero, suc, ◌+◌, ◌*◌, ◌≤◌, ◌<◌, ◌^◌, ℤ, pos, ◌+ℤ◌, ◌*ℤ◌, ◌<ℤ◌, arith, cond, nat_le, Bool, true, false, nat_abs, add-one, FitsSigned, mul-le-mul}
 use Rattle.std.specs.Int.{w128}
 use Rattle.std.proofs.lemmas.Int.{ints, unsigned_abs-mul, fits_signed_from_abs}
 use Rattle.std.proofs.lemmas.Bool.Decides.{nat_tests}
 use native.Mathlib.Decide.{ℕ_discrete}
 use Rattle.lt_tableau.specs.Numbers.{sum_below}
-use Rattle.lt_tableau.specs.Table.{Table, IsTableau, entry_of, basic_of, units_of}
-use Rattle.lt_lp.specs.Rule.{at_unit, unit_sum, IsBefore, IsLeaving, IsEarlier, number_of}
+use Rattle.lt_tableau.specs.Table.{Table, entry_of, basic_of, units_of}
+use Rattle.lt_lp.specs.Rule.{at_unit, IsBefore, IsLeaving, IsEarlier, number_of}
 use Rattle.lt_lp.proofs.Leaves.{before_before}
-use Rattle.lt_model.proofs.Integers.{zero_add_z}
 
 pub sum_below_suc : (n : ℕ) (f : ℕ → ℤ) → sum_below (suc n) f ≡ sum_below n f +ℤ f n
 sum_below_suc zero f = omega (arith, ints)

@@ -1,17 +1,17 @@
 -- A tableau whose objective is 0 gives a combination: the values of the columns.
-use Rattle.std.proofs.Common.{subst, ◌≡◌, ◌≢◌, refl, sym, ◌∙◌, ap, ap₂, ℕ, zero, suc, ◌+◌, ◌-◌, ◌*◌, ◌^◌, ◌≤◌, ◌<◌, ℤ, pos, negsuc, ◌+ℤ◌, ◌-ℤ◌, ◌*ℤ◌, ◌≤ℤ◌, ◌<ℤ◌, arith, List, [], ◌∷◌, ◌++◌, map, length, get_or, cond, nat_eq, Bool, true, false, nat_abs}
+use Rattle.std.proofs.Common.{◌≡◌, ◌≢◌, refl, sym, ◌∙◌, ap, ℕ, zero, suc, ◌+◌, ◌-◌, ◌*◌, ◌^◌, ◌≤◌, ◌<◌, ℤ, pos, negsuc, ◌+ℤ◌, ◌-ℤ◌, ◌*ℤ◌, ◌≤ℤ◌, ◌<ℤ◌, arith, List, [], ◌∷◌, ◌++◌, map, length, cond, nat_eq, Bool, true, false, nat_abs}
 use Rattle.std.specs.Prelude.{remove}
-use Rattle.std.proofs.lemmas.Int.{ints, by_lt_z}
+use Rattle.std.proofs.lemmas.Int.{ints}
 use Rattle.std.proofs.lemmas.Bool.Decides.{nat_tests}
 use Rattle.std.proofs.lemmas.List.{length-map, get_or-append-add}
 use Rattle.std.proofs.lemmas.List.Edits.{length-remove, get_or-remove_above, get_or-remove_below}
 use native.Mathlib.Decide.{ℕ_discrete, dec_le}
 use Rattle.lt_model.specs.Padded.{lookup}
-use Rattle.lt_model.specs.Vectors.{scale, dot, unit}
-use Rattle.lt_model.proofs.Integers.{mul_comm_z, mul_zero_z, zero_mul_z, mul_one_z, zero_add_z, add_zero_z}
-use Rattle.lt_model.proofs.Ring.{ring, ring_by, ring_by_two, var, num, ◌⊕◌, ◌⊖◌, ◌⊗◌}
+use Rattle.lt_model.specs.Vectors.{scale, dot}
+use Rattle.lt_model.proofs.Integers.{mul_comm_z, mul_zero_z, zero_mul_z, mul_one_z}
+use Rattle.lt_model.proofs.Ring.{ring, ring_by, var, num, ◌⊕◌, ◌⊖◌, ◌⊗◌}
 use Rattle.lt_model.proofs.Inequalities.{mul_pos_z, mul_nonneg_z, mul_le_mul_z}
-use Rattle.lt_tableau.specs.Numbers.{sum_below, column_at, filled}
+use Rattle.lt_tableau.specs.Numbers.{sum_below, column_at}
 use Rattle.lt_tableau.specs.System.{system_of, counted, normal_column, turned_column, plain_column, unit_column}
 use Rattle.lt_tableau.specs.Table.{Table, IsTableau, right_of, basic_of, count_of, units_of}
 use Rattle.lt_tableau.proofs.Sums.{sum_more, sum_same, sum_zero, sum_own, lookup_none, lookup_scale, unit_same, unit_other}
@@ -28,6 +28,7 @@ value_small t w c = at_most t.rows (sum_small t.rows (2 ^ 56) (λ (row : ℕ). c
   where
     at_most : (n : ℕ) {x : ℕ} → x ≤ n * 2 ^ 56 → n ≤ 22 → x ≤ 22 * 2 ^ 56
     at_most n h l = omega arith
+
     pick : (b : Bool) (x : ℤ) → nat_abs x < 2 ^ 56 → nat_abs (cond b x (pos 0)) ≤ 2 ^ 56
     pick true x h = omega arith
     pick false x h = omega arith
@@ -86,6 +87,7 @@ occurs_step (suc m) b x n = pick (b 0) refl (occurs_step m (λ (r : ℕ). b (suc
     nonneg : (c : Bool) → pos 0 ≤ℤ cond c (pos 1) (pos 0)
     nonneg true = omega (arith, ints)
     nonneg false = omega (arith, ints)
+
     pick : (c : Bool) → b 0 ≡ c → (sum_below m (λ (r : ℕ). cond (b (suc r)) (x (suc r)) (pos 0)) ≢ pos 0 → pos 1 ≤ℤ sum_below m (λ (r : ℕ). cond (b (suc r)) (pos 1) (pos 0))) → pos 1 ≤ℤ (cond (b 0) (pos 1) (pos 0) +ℤ sum_below m (λ (r : ℕ). cond (b (suc r)) (pos 1) (pos 0)))
     pick true e f =
         let r = sum_nonneg m (λ (r : ℕ). cond (b (suc r)) (pos 1) (pos 0)) (λ q l. nonneg (b (suc q))) in
@@ -139,6 +141,7 @@ unit_value t w o c h = sum_zero t.rows (λ (r : ℕ). cond (nat_eq (basic_of t r
     same : (b : Bool) (x : ℤ) → x ≡ pos 0 → cond b x (pos 0) ≡ pos 0
     same true x e = e
     same false x e = refl
+
     pick : (r : ℕ) → r < t.rows → Dec (c ≡ basic_of t r) → cond (nat_eq (basic_of t r) c) (right_of t r) (pos 0) ≡ pos 0
     pick r l (yes e) = same (nat_eq (basic_of t r) c) (right_of t r) (unit_values t w o r l (rw (sym e) h))
     pick r l (no n) = ap (λ (b : Bool). cond b (right_of t r) (pos 0)) (nat_eq_other (basic_of t r) c n)
@@ -181,56 +184,75 @@ past_length (a ∷ x) (suc n) h = past_length x n (omega arith)
 
 pub mixed : (t : Table) (normals : List (List ℤ)) (k n : ℕ) → IsReady t → t.system ≡ system_of normals k → t.rows ≡ suc n → k < length normals → n ≤ 21 → ((j : ℕ) → j < length normals → length (column_at normals j) ≡ n) → objective_of t ≡ pos 0 → IsMix t normals k n
 mixed t normals k n w es er h b s o = record {
-    sum = λ q l. solved q (all q (omega arith)) l;
-    whole = last (all n (omega arith));
-  }
+  sum = λ q l. solved q (all q (omega arith)) l;
+  whole = last (all n (omega arith));
+}
   where
     x : List ℤ
     x = column_at normals k
+
     z : length x ≡ n
     z = s k h
+
     m : ℕ
     m = length normals - 1
+
     us : List (List ℤ)
     us = map unit_column (counted 0 (suc (length x))) ++ unit_column (length x) ∷ []
+
     xs : List (List ℤ)
     xs = remove normals k
+
     lx : length xs ≡ m
     lx = let e = length-remove normals k h in omega arith
+
     f : length (map normal_column xs) ≡ m
     f = length-map xs normal_column ∙ lx
+
     width : count_of t ≡ (m + 2) + suc n
     width = let l = length-system normals k h in let e : length t.system ≡ suc (suc (length normals) + suc (length x)) = ap (length {A = List ℤ}) es ∙ l in omega arith
+
     first : units_of t ≡ m + 2
     first = let e = width in omega arith
+
     col : (c : ℕ) → c < m → column_at t.system c ≡ normal_column (column_at xs c)
     col c l = rw es (at_normals xs (turned_column x ∷ plain_column x ∷ us) c (rw lx l))
+
     cp : column_at t.system m ≡ turned_column x
     cp = let e : m + 0 ≡ m = omega arith in rw es (rw (f, e) at (get_or-append-add (map normal_column xs) (turned_column x ∷ plain_column x ∷ us) 0 []))
+
     cq : column_at t.system (suc m) ≡ plain_column x
     cq = let e : m + 1 ≡ suc m = omega arith in rw es (rw (f, e) at (get_or-append-add (map normal_column xs) (turned_column x ∷ plain_column x ∷ us) 1 []))
+
     cr : column_at t.system (count_of t) ≡ unit_column n
     cr =
         let c : count_of t ≡ suc (length normals) + suc (length x) = (let e = width in omega arith) in
         rw (c, es) (system_right normals k h ∙ ap unit_column z)
+
     -- all columns at a row of the system
     all : (q : ℕ) → q < 22 → sum_below m (λ (c : ℕ). value_of t c *ℤ lookup (column_at t.system c) q) +ℤ (value_of t m *ℤ lookup (column_at t.system m) q +ℤ value_of t (suc m) *ℤ lookup (column_at t.system (suc m)) q) ≡ t.den *ℤ lookup (unit_column n) q
     all q l =
         let y = λ (c : ℕ). lookup (column_at t.system c) q in
         sym (ap (λ (u : ℕ). sum_below u (λ (c : ℕ). value_of t c *ℤ y c)) width
-            ∙ sum_cut (m + 2) (suc n) (λ (c : ℕ). value_of t c *ℤ y c) (λ c v. ap (λ (a : ℤ). a *ℤ y c) (unit_value t w o c (rw first v)) ∙ zero_mul_z (y c))
-            ∙ sum_two m (λ (c : ℕ). value_of t c *ℤ y c))
+        ∙ sum_cut (m + 2) (suc n) (λ (c : ℕ). value_of t c *ℤ y c) (λ c v. ap (λ (a : ℤ). a *ℤ y c) (unit_value t w o c (rw first v)) ∙ zero_mul_z (y c))
+        ∙ sum_two m (λ (c : ℕ). value_of t c *ℤ y c))
         ∙ sym (rows_as_columns t y w.tableau) ∙ value_law t w.tableau q ∙ ap (λ (v : List ℤ). t.den *ℤ lookup v q) cr
+
     part : (q : ℕ) → q < 22 → sum_below m (λ (c : ℕ). value_of t c *ℤ lookup (column_at t.system c) q) ≡ sum_below m (λ (c : ℕ). value_of t c *ℤ lookup (column_at xs c ++ pos 1 ∷ []) q)
     part q l = sum_same m (λ (c : ℕ). value_of t c *ℤ lookup (column_at t.system c) q) (λ (c : ℕ). value_of t c *ℤ lookup (column_at xs c ++ pos 1 ∷ []) q) (λ c v. ap (λ (a : ℤ). value_of t c *ℤ a) (ap (λ (u : List ℤ). lookup u q) (col c v) ∙ filled_in 22 (column_at xs c ++ pos 1 ∷ []) q l))
+
     at_p : (q : ℕ) → q < 22 → lookup (column_at t.system m) q ≡ negsuc 0 *ℤ lookup x q
     at_p q l = ap (λ (u : List ℤ). lookup u q) cp ∙ filled_in 22 (scale (negsuc 0) x) q l ∙ lookup_scale (negsuc 0) x q
+
     at_q : (q : ℕ) → q < 22 → lookup (column_at t.system (suc m)) q ≡ lookup x q
     at_q q l = ap (λ (u : List ℤ). lookup u q) cq ∙ filled_in 22 (x ++ pos 0 ∷ []) q l ∙ append_zero x q
+
     len : (c : ℕ) → c < m → length (column_at xs c) ≡ n
     len c l = removed_length normals k n h s c (rw lx l)
+
     next : suc m ≡ length normals
     next = omega arith
+
     solved : (q : ℕ) → sum_below m (λ (c : ℕ). value_of t c *ℤ lookup (column_at t.system c) q) +ℤ (value_of t m *ℤ lookup (column_at t.system m) q +ℤ value_of t (suc m) *ℤ lookup (column_at t.system (suc m)) q) ≡ t.den *ℤ lookup (unit_column n) q → q < n →
         sum_below m (λ (c : ℕ). value_of t c *ℤ lookup (column_at xs c) q) ≡ (value_of t m -ℤ value_of t (length normals)) *ℤ lookup x q
     solved q e l =
@@ -239,6 +261,7 @@ mixed t normals k n w es er h b s o = record {
         let g = rw (a, at_p q (omega arith), at_q q (omega arith), u, next) at e in
         ring_by (sum_below m (λ (c : ℕ). value_of t c *ℤ lookup (column_at xs c) q) ∷ value_of t m ∷ value_of t (length normals) ∷ lookup x q ∷ t.den ∷ [])
         (var 0) ((var 1 ⊖ var 2) ⊗ var 3) (num (pos 1)) (var 0 ⊕ (var 1 ⊗ (num (negsuc 0) ⊗ var 3) ⊕ var 2 ⊗ var 3)) (var 4 ⊗ num (pos 0)) tt g
+
     last : sum_below m (λ (c : ℕ). value_of t c *ℤ lookup (column_at t.system c) n) +ℤ (value_of t m *ℤ lookup (column_at t.system m) n +ℤ value_of t (suc m) *ℤ lookup (column_at t.system (suc m)) n) ≡ t.den *ℤ lookup (unit_column n) n →
         sum_below m (value_of t) ≡ t.den
     last e =
@@ -261,6 +284,7 @@ some_positive (suc m) f d h g p = pick (f 0) refl (some_positive m (λ (q : ℕ)
   where
     weak : (x : ℤ) → pos 0 <ℤ x → pos 0 ≤ℤ x
     weak x l = omega (arith, ints)
+
     pick : (x : ℤ) → f 0 ≡ x → (pos 0 <ℤ sum_below m (λ (q : ℕ). f (suc q)) → pos 0 <ℤ sum_below m (λ (q : ℕ). f (suc q) *ℤ d (suc q))) → pos 0 <ℤ (f 0 *ℤ d 0 +ℤ sum_below m (λ (q : ℕ). f (suc q) *ℤ d (suc q)))
     pick (pos zero) e r =
         let z : f 0 *ℤ d 0 ≡ pos 0 = rw e (zero_mul_z (d 0)) in
@@ -293,22 +317,29 @@ mix_positive t normals k n form w h s g x = positive_first scale_is (dot (column
   where
     m : ℕ
     m = length normals - 1
+
     xs : List (List ℤ)
     xs = remove normals k
+
     lx : length xs ≡ m
     lx = let e = length-remove normals k h in omega arith
+
     scale_is : ℤ
     scale_is = value_of t m -ℤ value_of t (length normals)
+
     at : (v : List ℤ) → length v ≡ n → dot v form ≡ sum_below n (λ (q : ℕ). lookup v q *ℤ lookup form q)
     at v e = dot_sum v form ∙ ap (λ (u : ℕ). sum_below u (λ (q : ℕ). lookup v q *ℤ lookup form q)) e
+
     other : (c : ℕ) → c < m → pos 0 <ℤ sum_below n (λ (q : ℕ). lookup (column_at xs c) q *ℤ lookup form q)
     other c l = rw (sym (at (column_at xs c) (removed_length normals k n h s c (rw lx l)))) (pick (dec_le k c))
       where
         pick : Dec (k ≤ c) → pos 0 <ℤ dot (column_at xs c) form
         pick (yes p) = rw (get_or-remove_above normals k [] c p h) (g (c + 1) (omega arith))
         pick (no p) = rw (get_or-remove_below normals k [] c (omega arith) h) (g c (omega arith))
+
     left : pos 0 <ℤ sum_below m (λ (c : ℕ). value_of t c *ℤ sum_below n (λ (q : ℕ). lookup (column_at xs c) q *ℤ lookup form q))
     left = some_positive m (value_of t) (λ (c : ℕ). sum_below n (λ (q : ℕ). lookup (column_at xs c) q *ℤ lookup form q)) (value_nonneg t w) other (rw x.whole w.tableau.positive)
+
     both : scale_is *ℤ dot (column_at normals k) form ≡ sum_below m (λ (c : ℕ). value_of t c *ℤ sum_below n (λ (q : ℕ). lookup (column_at xs c) q *ℤ lookup form q))
     both =
         ap (λ (z : ℤ). scale_is *ℤ z) (at (column_at normals k) (s k h))

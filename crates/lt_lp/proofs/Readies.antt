@@ -1,7 +1,6 @@
 -- The first tableau is ready for the pivot rule.
-use Rattle.std.proofs.Common.{subst, ◌≡◌, ◌∙◌, ap, sym, ℕ, suc, ◌+◌, ◌≤◌, ◌<◌, ℤ, List, [], length, get_or, arith}
+use Rattle.std.proofs.Common.{subst, ◌≡◌, ap, ℕ, suc, ◌+◌, ◌≤◌, ◌<◌, ℤ, List, [], length, get_or}
 use Rattle.lt_model.specs.Padded.{lookup}
-use Rattle.lt_model.specs.Vectors.{unit}
 use Rattle.lt_tableau.specs.Numbers.{column_at}
 use Rattle.lt_tableau.specs.Table.{Table, IsTableau, entry_of}
 use Rattle.lt_tableau.specs.System.{system_of, unit_column}
@@ -17,5 +16,5 @@ system_ready t normals k n w h l s e r c =
     let a : IsStart t.rows (suc (length normals)) t.system = rw (r, e) (system_starts normals k n h l s) in
     let z : length (get_or normals k []) ≡ n = s k h in
     let f : column_at t.system (suc (length normals) + t.rows) ≡ unit_column n =
-        rw (e, r) (subst (λ (m : ℕ). column_at (system_of normals k) (suc (length normals) + suc m) ≡ unit_column m) z (system_right normals k h)) in
+    rw (e, r) (subst (λ (m : ℕ). column_at (system_of normals k) (suc (length normals) + suc m) ≡ unit_column m) z (system_right normals k h)) in
     ready_start t (suc (length normals)) n w a r c (λ i b. ap (λ (x : List ℤ). lookup x i) f)

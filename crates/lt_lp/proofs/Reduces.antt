@@ -1,6 +1,5 @@
 -- A list with a number that isn't 0, divided by its greatest common divisor.
-use Rattle.std.proofs.Common.{◌≡◌, ◌≢◌, refl, sym, ◌∙◌, ap, subst, arith, ℕ, zero, suc, ◌*◌, ◌^◌, ◌<◌, ◌≤◌, ℤ, pos, negsuc, ◌*ℤ◌, ◌≤ℤ◌, List, [], ◌∷◌, length, map, nat_abs, unsigned_abs, mul-le-mul}
-use Rattle.std.specs.List.{All}
+use Rattle.std.proofs.Common.{◌≡◌, ◌≢◌, refl, sym, ◌∙◌, ap, subst, arith, ℕ, zero, suc, ◌*◌, ◌^◌, ◌<◌, ◌≤◌, ℤ, pos, negsuc, ◌*ℤ◌, ◌≤ℤ◌, List, [], ◌∷◌, map, nat_abs, unsigned_abs, mul-le-mul}
 use Rattle.std.specs.Int.{◌∣◌}
 use Rattle.std.proofs.lemmas.Int.{ints, unsigned_abs-mul}
 use Rattle.std.proofs.lemmas.List.Elements.{All-cons, All-head, All-tail}
@@ -9,7 +8,6 @@ use Rattle.std.proofs.Math.Nat.{one-dvd, dvd-mul_right}
 use Rattle.lt_model.specs.Padded.{lookup}
 use Rattle.lt_model.specs.Vectors.{scale, IsPrimitive}
 use Rattle.lt_model.specs.Cones.{AreBelow}
-use Rattle.lt_model.proofs.Integers.{zero_mul_z}
 use Rattle.lt_num.specs.Divisors.{DividesEach, IsGcdOf, MadePrimitive}
 use Rattle.lt_lp.specs.Reduced.{IsReduced}
 use Rattle.lt_tableau.proofs.Sums.{lookup_none}
@@ -53,6 +51,7 @@ zero_divides n p d = no n p (dvd_antisymm (zero_from d) d)
   where
     zero_from : 0 ∣ n → n ∣ 0
     zero_from d = dvd-zero n
+
     no : (n : ℕ) → 0 < n → n ≡ 0 → ⊥
     no n p e = omega arith
 

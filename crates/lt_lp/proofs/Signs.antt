@@ -1,18 +1,16 @@
 -- What a stopped tableau says: the wall form's signs, and the values where the objective is 0.
-use Rattle.std.proofs.Common.{subst, ◌≡◌, ◌≢◌, refl, sym, ◌∙◌, ap, ap₂, ℕ, zero, suc, ◌+◌, ◌-◌, ◌≤◌, ◌<◌, ℤ, pos, negsuc, ◌+ℤ◌, ◌-ℤ◌, ◌*ℤ◌, ◌≤ℤ◌, ◌<ℤ◌, neg_ℤ, arith, List, [], ◌∷◌, ◌++◌, length, get_or, cond, nat_le, Bool, true, false}
-use Rattle.std.proofs.lemmas.Int.{ints, by_lt_z}
-use native.Mathlib.Decide.{ℕ_discrete, dec_le}
-use Rattle.lt_model.specs.Padded.{lookup, head_z, tail_z}
-use Rattle.lt_model.specs.Vectors.{unit, dot}
+use Rattle.std.proofs.Common.{subst, ◌≡◌, refl, sym, ◌∙◌, ap, ℕ, zero, suc, ◌+◌, ◌≤◌, ◌<◌, ℤ, pos, ◌+ℤ◌, ◌*ℤ◌, ◌≤ℤ◌, ◌<ℤ◌, arith, List, [], ◌∷◌, ◌++◌, length, cond, nat_le, Bool, true, false}
+use Rattle.std.proofs.lemmas.Int.{ints}
+use Rattle.lt_model.specs.Padded.{lookup}
+use Rattle.lt_model.specs.Vectors.{unit}
 use Rattle.lt_tableau.specs.Numbers.{sum_below}
-use Rattle.lt_tableau.specs.Table.{Table, IsTableau, entry_of, right_of, basic_of, count_of, units_of}
+use Rattle.lt_tableau.specs.Table.{Table, IsTableau, entry_of, basic_of, count_of, units_of}
 use Rattle.lt_tableau.specs.Numbers.{column_at}
-use Rattle.lt_lp.specs.Rule.{at_unit, unit_sum, objective_of, gain_of, number_of, IsLexPositive, IsReady}
+use Rattle.lt_lp.specs.Rule.{at_unit, objective_of, gain_of, number_of, IsLexPositive}
 use Rattle.lt_model.proofs.Integers.{mul_zero_z, zero_mul_z, mul_one_z}
-use Rattle.lt_model.proofs.Ring.{ring, ring_by, ring_by_two, var, num, ◌⊕◌, ◌⊖◌, ◌⊗◌}
-use Rattle.lt_model.proofs.Inequalities.{mul_pos_z}
+use Rattle.lt_model.proofs.Ring.{ring_by, var, num, ◌⊕◌, ◌⊗◌}
 use Rattle.lt_lp.proofs.Columns.{sum_below_swap}
-use Rattle.lt_tableau.proofs.Sums.{sum_own, sum_same, sum_zero, unit_same, unit_other, lookup_none}
+use Rattle.lt_tableau.proofs.Sums.{sum_own, sum_same, sum_zero, unit_same, unit_other}
 
 unit_part : (b : Bool) (m : ℕ) (f x : ℕ → ℤ) → cond b (sum_below m (λ (q : ℕ). f q *ℤ x q)) (pos 0) ≡ sum_below m (λ (q : ℕ). cond b (f q) (pos 0) *ℤ x q)
 unit_part true m f x = refl
@@ -30,8 +28,8 @@ gain_law t w c =
     let x : ℕ → ℤ = lookup (column_at t.system c) in
     let e : ℕ → ℕ → ℤ = λ (row q : ℕ). entry_of t row (units_of t + q) in
     let a : gain_of t c ≡ sum_below t.rows (λ (row : ℕ). sum_below t.rows (λ (q : ℕ). at_unit t row (e row q) *ℤ x q)) =
-        sum_same t.rows (λ (row : ℕ). at_unit t row (entry_of t row c)) (λ (row : ℕ). sum_below t.rows (λ (q : ℕ). at_unit t row (e row q) *ℤ x q))
-        (λ row l. ap (at_unit t row) (w.row_law row c l) ∙ unit_part (nat_le (units_of t) (basic_of t row)) t.rows (e row) x) in
+    sum_same t.rows (λ (row : ℕ). at_unit t row (entry_of t row c)) (λ (row : ℕ). sum_below t.rows (λ (q : ℕ). at_unit t row (e row q) *ℤ x q))
+    (λ row l. ap (at_unit t row) (w.row_law row c l) ∙ unit_part (nat_le (units_of t) (basic_of t row)) t.rows (e row) x) in
     let b = sum_below_swap t.rows t.rows (λ (row q : ℕ). at_unit t row (e row q) *ℤ x q) in
     a ∙ b ∙ sum_same t.rows (λ (q : ℕ). sum_below t.rows (λ (row : ℕ). at_unit t row (e row q) *ℤ x q)) (λ (q : ℕ). gain_of t (units_of t + q) *ℤ x q)
     (λ q l. sum_times t.rows (x q) (λ (row : ℕ). at_unit t row (e row q)))

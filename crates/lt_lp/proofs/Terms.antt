@@ -1,5 +1,5 @@
 -- The terms of a combination: their places ascend, their numbers are positive, and they sum up as the columns do.
-use Rattle.std.proofs.Common.{◌≡◌, ◌≢◌, refl, sym, ◌∙◌, ap, subst, arith, ℕ, zero, suc, ◌+◌, ◌-◌, ◌*◌, ◌^◌, ◌<◌, ◌≤◌, ℤ, pos, negsuc, ◌+ℤ◌, ◌*ℤ◌, ◌≤ℤ◌, ◌<ℤ◌, List, [], ◌∷◌, length, map, get_or, cond, nat_lt, nat_eq, Bool, true, false, nat_abs}
+use Rattle.std.proofs.Common.{◌≡◌, ◌≢◌, refl, ◌∙◌, ap, arith, ℕ, zero, suc, ◌+◌, ◌<◌, ◌≤◌, ℤ, pos, negsuc, ◌+ℤ◌, ◌*ℤ◌, ◌≤ℤ◌, ◌<ℤ◌, List, [], ◌∷◌, length, map, get_or, cond, nat_lt, Bool, true, false, nat_abs}
 use Rattle.std.specs.Prelude.{remove}
 use Rattle.std.specs.List.{All, AllByRecursion}
 use Rattle.std.specs.List.Sorted.{IsStrictlySortedBy}
@@ -7,14 +7,11 @@ use Rattle.std.specs.Ordering.{nat_cmp}
 use Rattle.std.specs.declared.cmp.Ordering.TheVariants.{Less}
 use Rattle.std.proofs.lemmas.Int.{ints}
 use Rattle.std.proofs.lemmas.Bool.Decides.{nat_tests}
-use Rattle.std.proofs.lemmas.List.{length-map}
-use Rattle.std.proofs.lemmas.List.Edits.{length-remove, get_or-remove_above, get_or-remove_below}
+use Rattle.std.proofs.lemmas.List.Edits.{get_or-remove_above, get_or-remove_below}
 use Rattle.std.proofs.lemmas.List.Elements.{All-cons}
-use native.Mathlib.Decide.{dec_le}
 use Rattle.lt_model.specs.Padded.{lookup}
-use Rattle.lt_model.specs.Vectors.{scale, plus, combine, total}
+use Rattle.lt_model.specs.Vectors.{scale, combine, total}
 use Rattle.lt_model.specs.Cones.{coefficients, places, AreBelow}
-use Rattle.lt_model.proofs.Integers.{zero_mul_z, add_zero_z, zero_add_z}
 use Rattle.lt_tableau.specs.Numbers.{sum_below, column_at}
 use Rattle.lt_tableau.proofs.Sums.{lookup_none, lookup_plus, lookup_scale, sum_same}
 use Rattle.lt_lp.specs.Terms.{place_of, with_term, terms_from}
@@ -127,8 +124,8 @@ terms_few k f occ c (suc m) h g =
     let z : occ (c + 0) ≡ occ c = ap occ (omega arith) in
     let o = h c in
     with_cases (λ ts. pos (length ts) ≤ℤ (occ (c + 0) +ℤ sum_below m (λ (i : ℕ). occ (c + suc i)))) (place_of k c) (f c) (terms_from k f (suc c) m)
-        (λ _. omega (arith, ints, r, e, z, o))
-        (λ n. (let p = g c n in omega (arith, ints, r, e, z, p)))
+    (λ _. omega (arith, ints, r, e, z, o))
+    (λ n. (let p = g c n in omega (arith, ints, r, e, z, p)))
 
 -- ---- the sum
 column_of_term : (normals : List (List ℤ)) (k c : ℕ) → k < length normals → suc c < length normals → column_at (remove normals k) c ≡ get_or normals (place_of k c) []
@@ -147,14 +144,14 @@ terms_sum normals k f c zero q h l = lookup_none q
 terms_sum normals k f c (suc m) q h l =
     let r = terms_sum normals k f (suc c) m q h (omega arith) in
     let e : sum_below m (λ (i : ℕ). f (suc c + i) *ℤ lookup (column_at (remove normals k) (suc c + i)) q) ≡ sum_below m (λ (i : ℕ). f (c + suc i) *ℤ lookup (column_at (remove normals k) (c + suc i)) q) =
-        sum_same m (λ (i : ℕ). f (suc c + i) *ℤ lookup (column_at (remove normals k) (suc c + i)) q) (λ (i : ℕ). f (c + suc i) *ℤ lookup (column_at (remove normals k) (c + suc i)) q) (λ i b. ap (λ (j : ℕ). f j *ℤ lookup (column_at (remove normals k) j) q) (omega arith)) in
+    sum_same m (λ (i : ℕ). f (suc c + i) *ℤ lookup (column_at (remove normals k) (suc c + i)) q) (λ (i : ℕ). f (c + suc i) *ℤ lookup (column_at (remove normals k) (c + suc i)) q) (λ i b. ap (λ (j : ℕ). f j *ℤ lookup (column_at (remove normals k) j) q) (omega arith)) in
     let z : c + 0 ≡ c = omega arith in
     let o = column_of_term normals k c h (omega arith) in
     let rest = sum_below m (λ (i : ℕ). f (c + suc i) *ℤ lookup (column_at (remove normals k) (c + suc i)) q) in
     with_cases (λ ts. lookup (combine (coefficients ts) (map (λ i. get_or normals i []) (places ts))) q ≡ f (c + 0) *ℤ lookup (column_at (remove normals k) (c + 0)) q +ℤ rest) (place_of k c) (f c) (terms_from k f (suc c) m)
-        (λ n. r ∙ e ∙ rw (z, n) (none (lookup (column_at (remove normals k) c) q) rest))
-        (λ n. lookup_plus (scale (f c) (get_or normals (place_of k c) [])) (combine (coefficients (terms_from k f (suc c) m)) (map (λ i. get_or normals i []) (places (terms_from k f (suc c) m)))) q
-            ∙ rw (z, lookup_scale (f c) (get_or normals (place_of k c) []) q, r, e, o) refl)
+    (λ n. r ∙ e ∙ rw (z, n) (none (lookup (column_at (remove normals k) c) q) rest))
+    (λ n. lookup_plus (scale (f c) (get_or normals (place_of k c) [])) (combine (coefficients (terms_from k f (suc c) m)) (map (λ i. get_or normals i []) (places (terms_from k f (suc c) m)))) q
+    ∙ rw (z, lookup_scale (f c) (get_or normals (place_of k c) []) q, r, e, o) refl)
   where
     none : (x y : ℤ) → y ≡ pos 0 *ℤ x +ℤ y
     none x y = omega (arith, ints)
@@ -166,5 +163,5 @@ terms_total k f c (suc m) =
     let e : sum_below m (λ (i : ℕ). f (suc c + i)) ≡ sum_below m (λ (i : ℕ). f (c + suc i)) = sum_same m (λ (i : ℕ). f (suc c + i)) (λ (i : ℕ). f (c + suc i)) (λ i l. ap f (omega arith)) in
     let z : f (c + 0) ≡ f c = ap f (omega arith) in
     with_cases (λ ts. total (coefficients ts) ≡ f (c + 0) +ℤ sum_below m (λ (i : ℕ). f (c + suc i))) (place_of k c) (f c) (terms_from k f (suc c) m)
-        (λ n. omega (arith, ints, r, e, z, n))
-        (λ n. omega (arith, ints, r, e, z))
+    (λ n. omega (arith, ints, r, e, z, n))
+    (λ n. omega (arith, ints, r, e, z))

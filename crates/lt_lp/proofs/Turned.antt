@@ -1,10 +1,9 @@
 -- The list of the gains of the unit columns with their signs changed, and the wall that it gives.
-use Rattle.std.proofs.Common.{subst, ◌≡◌, ◌≢◌, refl, sym, ◌∙◌, ap, ℕ, zero, suc, ◌+◌, ◌-◌, ◌≤◌, ◌<◌, ◌^◌, ◌*◌, ℤ, pos, negsuc, neg_ℤ, ◌+ℤ◌, ◌*ℤ◌, ◌<ℤ◌, nat_abs, arith, List, [], ◌∷◌, ◌++◌, length, get_or, add-one}
-use Rattle.std.specs.List.{All}
+use Rattle.std.proofs.Common.{◌≡◌, refl, sym, ◌∙◌, ap, ℕ, zero, suc, ◌+◌, ◌<◌, ◌^◌, ℤ, pos, neg_ℤ, ◌+ℤ◌, ◌*ℤ◌, ◌<ℤ◌, nat_abs, arith, List, [], ◌∷◌, ◌++◌, length, add-one}
 use Rattle.std.proofs.lemmas.Int.{ints, by_lt_z}
 use Rattle.std.proofs.lemmas.List.Elements.{All-cons}
 use Rattle.lt_model.specs.Padded.{lookup}
-use Rattle.lt_model.specs.Vectors.{dot, scale}
+use Rattle.lt_model.specs.Vectors.{dot}
 use Rattle.lt_model.specs.Forms.{numbers_of_form}
 use Rattle.lt_model.specs.Cones.{AreBelow, IsRightWall}
 use Rattle.lt_model.proofs.Integers.{mul_zero_z}
@@ -51,20 +50,24 @@ positive_factor g x p h = by_lt_z (pos 0) x (λ l. l) (λ l. (let m = mul_le_mul
 
 pub right_wall : (t : Table) (normals : List (List ℤ)) (k d : ℕ) (w : List ℤ) → WallSigns t normals k (numbers_of_form d) → IsReduced (turned_gains (numbers_of_form d) t) w → AreBelow (2 ^ 62) w → IsRightWall d normals k w
 right_wall t normals k d w s r l = record {
-    numbers = sym (length-scale (pos r.factor) w) ∙ ap length (sym r.times) ∙ length-listed n (λ (q : ℕ). neg_ℤ (gain_of t (units_of t + q)));
-    primitive = r.primitive;
-    below = l;
-    zero_there = cancel_z (pos r.factor) (dot (column_at normals k) w) (pos 0) f (times (column_at normals k) ∙ none (dot (listed n y) (column_at normals k)) s.own ∙ sym (mul_zero_z (pos r.factor)));
-    others = λ i h m. (let o = s.others i h m in let e = times (column_at normals i) in positive_factor r.factor (dot (column_at normals i) w) r.some (omega (arith, ints)));
-  }
+  numbers = sym (length-scale (pos r.factor) w) ∙ ap length (sym r.times) ∙ length-listed n (λ (q : ℕ). neg_ℤ (gain_of t (units_of t + q)));
+  primitive = r.primitive;
+  below = l;
+  zero_there = cancel_z (pos r.factor) (dot (column_at normals k) w) (pos 0) f (times (column_at normals k) ∙ none (dot (listed n y) (column_at normals k)) s.own ∙ sym (mul_zero_z (pos r.factor)));
+  others = λ i h m. (let o = s.others i h m in let e = times (column_at normals i) in positive_factor r.factor (dot (column_at normals i) w) r.some (omega (arith, ints)));
+}
   where
     n : ℕ
     n = numbers_of_form d
+
     y : ℕ → ℤ
     y q = gain_of t (units_of t + q)
+
     f : pos 0 <ℤ pos r.factor
     f = let a = r.some in omega (arith, ints)
+
     times : (v : List ℤ) → pos r.factor *ℤ dot v w ≡ neg_ℤ (dot (listed n y) v)
     times v = sym (dot-scale v (pos r.factor) w) ∙ ap (dot v) (sym r.times) ∙ dot_comm v (turned_gains n t) ∙ dot_opposite n y v
+
     none : (x : ℤ) → x ≡ pos 0 → neg_ℤ x ≡ pos 0
     none x e = rw e refl

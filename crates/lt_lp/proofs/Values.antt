@@ -1,12 +1,12 @@
 -- A tableau whose objective is 0: values that are not negative, 0 in the rows of unit columns, whose combination is the right side.
-use Rattle.std.proofs.Common.{subst, ◌≡◌, ◌≢◌, refl, sym, ◌∙◌, ap, ℕ, zero, suc, ◌+◌, ◌-◌, ◌≤◌, ◌<◌, ℤ, pos, ◌+ℤ◌, ◌*ℤ◌, ◌≤ℤ◌, arith, List, [], ◌∷◌, map, length, get_or, cond, nat_le, Bool, true, false}
+use Rattle.std.proofs.Common.{subst, ◌≡◌, sym, ◌∙◌, ap, ℕ, ◌-◌, ◌≤◌, ◌<◌, ℤ, pos, ◌*ℤ◌, ◌≤ℤ◌, arith, List, map, length, get_or, cond, nat_le, Bool, true, false}
 use Rattle.std.proofs.lemmas.Int.{ints}
-use Rattle.lt_model.specs.Padded.{lookup, head_z, tail_z}
-use Rattle.lt_model.specs.Vectors.{scale, combine}
+use Rattle.lt_model.specs.Padded.{lookup}
+use Rattle.lt_model.specs.Vectors.{combine}
 use Rattle.lt_tableau.specs.Numbers.{sum_below}
 use Rattle.lt_tableau.specs.Table.{Table, IsTableau, right_of, basic_of, count_of, units_of}
 use Rattle.lt_tableau.specs.Numbers.{column_at}
-use Rattle.lt_lp.specs.Rule.{at_unit, objective_of, number_of, IsReady}
+use Rattle.lt_lp.specs.Rule.{at_unit, objective_of, IsReady}
 use Rattle.lt_tableau.proofs.Sums.{lookup_combine, sum_same}
 use Rattle.lt_tableau.proofs.Kept.{at_map}
 use Rattle.std.proofs.lemmas.List.{length-map}

@@ -1,21 +1,20 @@
 -- The wall form of a stopped tableau, before it is made primitive: minus the sums of the unit columns.
-use Rattle.std.proofs.Common.{subst, ◌≡◌, ◌≢◌, refl, sym, ◌∙◌, ap, ℕ, zero, suc, ◌+◌, ◌-◌, ◌≤◌, ◌<◌, ℤ, pos, negsuc, ◌+ℤ◌, ◌*ℤ◌, ◌≤ℤ◌, ◌<ℤ◌, arith, List, [], ◌∷◌, ◌++◌, map, length, get_or, length-append}
+use Rattle.std.proofs.Common.{◌≡◌, ◌≢◌, refl, sym, ◌∙◌, ap, ℕ, zero, suc, ◌+◌, ◌-◌, ◌≤◌, ◌<◌, ℤ, pos, negsuc, ◌+ℤ◌, ◌*ℤ◌, ◌≤ℤ◌, ◌<ℤ◌, arith, List, [], ◌∷◌, ◌++◌, map, length, get_or}
 use Rattle.std.specs.Prelude.{remove}
 use Rattle.std.proofs.lemmas.Int.{ints}
-use Rattle.std.proofs.lemmas.List.{length-map, get_or-append-add, get_or_append_left}
+use Rattle.std.proofs.lemmas.List.{length-map, get_or-append-add}
 use Rattle.std.proofs.lemmas.List.Edits.{length-remove, get_or-remove_above, get_or-remove_below}
 use native.Mathlib.Decide.{dec_le}
 use Rattle.lt_model.specs.Padded.{lookup, head_z, tail_z}
-use Rattle.lt_model.specs.Vectors.{unit, dot, scale}
-use Rattle.lt_tableau.specs.Numbers.{sum_below, filled}
+use Rattle.lt_model.specs.Vectors.{dot, scale}
+use Rattle.lt_tableau.specs.Numbers.{sum_below}
 use Rattle.lt_tableau.specs.System.{system_of, counted, normal_column, turned_column, plain_column, unit_column}
 use Rattle.lt_tableau.specs.Table.{Table, IsTableau, count_of, units_of}
 use Rattle.lt_tableau.specs.Numbers.{column_at}
 use Rattle.lt_lp.specs.Rule.{objective_of, gain_of, listed}
-use Rattle.lt_model.proofs.Integers.{mul_zero_z, add_zero_z}
-use Rattle.lt_model.proofs.Ring.{ring, ring_by, var, num, ◌⊕◌, ◌⊗◌}
+use Rattle.lt_model.proofs.Integers.{mul_zero_z}
+use Rattle.lt_model.proofs.Ring.{ring_by, var, num, ◌⊕◌, ◌⊗◌}
 use Rattle.lt_tableau.proofs.Sums.{lookup_scale}
-use Rattle.lt_model.proofs.Vectors.{dot_comm}
 use Rattle.lt_tableau.proofs.Sums.{sum_same, sum_zero, lookup_none}
 use Rattle.lt_lp.proofs.Columns.{filled_in}
 use Rattle.lt_model.proofs.Squares.{length-scale}
@@ -55,7 +54,7 @@ wall_own t m p x w r l sp sq gp gq =
     let a = gain_of_list t m p (scale (negsuc 0) x) (pos 0) w r (length-scale (negsuc 0) x ∙ l) sp in
     let b = gain_of_list t m (suc p) x (pos 0) w r l sq in
     let d : sum_below m (λ (q : ℕ). y q *ℤ lookup (scale (negsuc 0) x) q) ≡ negsuc 0 *ℤ sum_below m (λ (q : ℕ). y q *ℤ lookup x q) =
-        sum_same m (λ (q : ℕ). y q *ℤ lookup (scale (negsuc 0) x) q) (λ (q : ℕ). y q *ℤ (negsuc 0 *ℤ lookup x q)) (λ q h. ap (λ (v : ℤ). y q *ℤ v) (lookup_scale (negsuc 0) x q)) ∙ sum_turned_signs m y x in
+    sum_same m (λ (q : ℕ). y q *ℤ lookup (scale (negsuc 0) x) q) (λ (q : ℕ). y q *ℤ (negsuc 0 *ℤ lookup x q)) (λ q h. ap (λ (v : ℤ). y q *ℤ v) (lookup_scale (negsuc 0) x q)) ∙ sum_turned_signs m y x in
     let z = mul_zero_z (y m) in
     omega (arith, ints)
 
@@ -125,7 +124,7 @@ wall_signs t normals k n w es er h b s g o =
     let c : count_of t ≡ suc (length normals) + suc (length x) = omega arith in
     let cr : column_at t.system (count_of t) ≡ unit_column (length x) = rw (c, es) (system_right normals k h) in
     let last : pos 0 <ℤ gain_of t (units_of t + n) =
-        rw (← objective_last t n w (omega arith) (λ q a. rw (cr, z) refl)) o in
+    rw (← objective_last t n w (omega arith) (λ q a. rw (cr, z) refl)) o in
     record {
       last = last;
       own = dot_listed n (λ (q : ℕ). gain_of t (units_of t + q)) x ∙ wall_own t n (length xs) x w er z

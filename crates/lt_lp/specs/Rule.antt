@@ -1,5 +1,5 @@
 -- The pivot rule over tableaux.
-use Rattle.std.specs.Prelude.{List, [], ◌∷◌, neg_ℤ, ◌≡◌, ◌≢◌, ℕ, zero, suc, ◌+◌, ◌-◌, ◌≤◌, ◌<◌, ℤ, pos, ◌*ℤ◌, ◌<ℤ◌, ◌≤ℤ◌, ◌⊎◌, cond, nat_le, length, set, ◌*◌, ◌/◌, ◌^◌, ◌+ℤ◌, nat_abs}
+use Rattle.std.specs.Prelude.{List, [], ◌∷◌, neg_ℤ, ◌≡◌, ◌≢◌, ℕ, zero, suc, ◌+◌, ◌-◌, ◌≤◌, ◌<◌, ℤ, pos, ◌*ℤ◌, ◌<ℤ◌, ◌≤ℤ◌, ◌⊎◌, cond, nat_le, set, ◌*◌, ◌/◌, ◌^◌, ◌+ℤ◌, nat_abs}
 use Rattle.lt_tableau.specs.Numbers.{sum_below, IsPivoted}
 use Rattle.lt_tableau.specs.Table.{Table, IsTableau, entry_of, right_of, basic_of, count_of, units_of}
 use Rattle.lt_tableau.specs.Numbers.{column_at}

@@ -1,5 +1,5 @@
 -- The values of the columns of a tableau, and the terms that they give.
-use Rattle.std.specs.Prelude.{ℕ, zero, suc, ℤ, pos, negsuc, ◌<◌, ◌-◌, ◌-ℤ◌, ◌≡◌, List, [], ◌∷◌, cond, nat_eq, nat_lt}
+use Rattle.std.specs.Prelude.{ℕ, zero, suc, ℤ, pos, negsuc, ◌-◌, ◌-ℤ◌, ◌≡◌, List, [], ◌∷◌, cond, nat_eq, nat_lt}
 use Rattle.lt_tableau.specs.Numbers.{sum_below}
 use Rattle.lt_model.specs.Cones.{Verdict, wall, combination, coefficients, places}
 use Rattle.lt_tableau.specs.Table.{Table, right_of, basic_of, units_of}

@@ -1,5 +1,5 @@
 -- The verdicts of the program as those of the definitions.
-use Rattle.std.specs.Prelude.{ℕ, ℤ, pos, ◌≡◌, ◌≤◌, List, [], ◌∷◌}
+use Rattle.std.specs.Prelude.{ℕ, pos, ◌≡◌, ◌≤◌, List, [], ◌∷◌}
 use Rattle.lt_model.specs.Cones.{Verdict as Certificate, wall, combination, Row}
 use Rattle.lt_model.specs.Limits.{weight_limit}
 use Rattle.lt_lp.specs.declared.verdicts.LpError.{LpError}
@@ -15,12 +15,3 @@ verdict_of (Combination factor terms) = combination factor terms.items
 abbrev pub IsHeavyLp : ℕ → LpError → Type 0
 IsHeavyLp w (Heavy weight) = (weight ≡ pos w) × (weight_limit ≤ w)
 IsHeavyLp w Memory = Unit
-
--- the rows with a wall
-abbrev pub wall_rows : List Row → List Row
-wall_rows [] = []
-wall_rows (r ∷ rows) = if_wall r.verdict r (wall_rows rows)
-  where
-    if_wall : Certificate → Row → List Row → List Row
-    if_wall (wall w) r rows = r ∷ rows
-    if_wall (combination factor terms) r rows = rows

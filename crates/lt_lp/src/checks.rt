@@ -179,6 +179,11 @@ pub fn check(normals: &[Normal], k: usize, verdict: &Verdict) -> bool
 {
     match verdict {
         Verdict::Wall(form) => is_wall(normals, k, form),
-        Verdict::Combination { scale, terms } => is_combination(normals, k, *scale, terms.as_slice()),
+        Verdict::Combination { scale, terms } => is_combination(
+            normals,
+            k,
+            *scale,
+            terms.as_slice(),
+        ),
     }
 }

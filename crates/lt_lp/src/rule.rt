@@ -39,7 +39,11 @@ fn number(t: &Tableau, row: usize, place: usize) -> i128
     ensures small { nat_abs result < 2 ^ 56 }
 {
     let rows = t.rows();
-    if place == 0 { t.right(row) } else { t.unit(row, rows - place) }
+    if place == 0 {
+        t.right(row)
+    } else {
+        t.unit(row, rows - place)
+    }
 }
 
 /// Whether the list of the row `a`, over its number in the column, is lexicographically less than that of the row `b`.
@@ -82,7 +86,11 @@ fn earlier(t: &Tableau, column: usize, row: usize, best: usize) -> usize
     if t.entry(row, column) <= 0 {
         return best;
     }
-    if is_before(t, column, row, best) { row } else { best }
+    if is_before(t, column, row, best) {
+        row
+    } else {
+        best
+    }
 }
 
 /// The first row whose number in the column is positive.

@@ -1,16 +1,12 @@
-use Rattle.std.proofs.Common.{rules, arith, refl, ◌≡◌, sym, ◌∙◌, ap, subst, ◌<◌, ◌≤◌, ◌^◌, ◌*ℤ◌, ◌<ℤ◌, ℕ, zero, suc, ℤ, pos, List, [], ◌∷◌, length, get_or, nat_abs, Bool, true, false, FitsSigned, to_z}
-use Rattle.std.specs.Prelude.{IsTrue, ◌↔◌}
-use Rattle.std.specs.Int.{w128}
-use Rattle.std.proofs.lemmas.Int.{ints, to_z-of_z}
+use Rattle.std.proofs.Common.{arith, refl, ◌≡◌, sym, ◌∙◌, subst, ◌<◌, ◌≤◌, ◌^◌, ℕ, ℤ, List, [], ◌∷◌, length, get_or, nat_abs, Bool, true, false}
+use Rattle.std.proofs.lemmas.Int.{to_z-of_z}
 use Rattle.std.proofs.lemmas.List.Elements.{All-cons}
-use Rattle.lt_model.specs.Padded.{lookup}
 use Rattle.lt_model.specs.Vectors.{IsPrimitive}
 use Rattle.lt_model.specs.Forms.{numbers_of_form}
-use Rattle.lt_model.specs.Cones.{AreBelow, coefficients, IsRightCombination}
-use Rattle.lt_tableau.specs.Errors.{AreOfDimension}
+use Rattle.lt_model.specs.Cones.{AreBelow, coefficients}
 use Rattle.lt_tableau.proofs.Turned.{get_or_any}
-use Rattle.lt_lp.specs.Checks.{AreTerms, term_sum}
-use Rattle.lt_lp.proofs.Checked.{HasParts, parts_right, right_parts, below_terms}
+use Rattle.lt_lp.specs.Checks.{AreTerms}
+use Rattle.lt_lp.proofs.Checked.{parts_right, right_parts, below_terms}
 use Rattle.lt_lp.proofs.Decided.{some_numbers}
 use Rattle.lt_lp.proofs.checks.is_combination.Goals as goal
 
@@ -29,19 +25,21 @@ returns-then-not-are_in_range c = λ d h.
     let z : c.index-normals-k-2.result ≡ get_or ns k [] = c.index-normals-k-2.is ∙ get_or_any ns k _ [] c.requires.place in
     let n : c.numbers.result.now ≡ get_or ns k [] = c.numbers.ensures.value ∙ z in
     let y = c.ranges.scale in
-    let r = simp to_z-of_z at c.are_in_range.ensures in
-    ((λ t. absurd (no false refl t)),
+    let r = simp to_z-of_z at c.are_in_range.ensures in (
+      (λ t. absurd (no false refl t)),
       (λ p. (let q = right_parts d ns k c.args.scale c.args.terms.now h c.requires.place (occupied c.index-normals-k.result (get_or ns k []) c.dimension.result e c.dimension.ensures.value c.dimension.ensures.low) p in
-        absurd (no c.are_in_range.result c.if-not-are_in_range.true (r.1 (q.some, q.small, q.occupied, rw n q.few))))))
+          absurd (no c.are_in_range.result c.if-not-are_in_range.true (r.1 (q.some, q.small, q.occupied, rw n q.few))))),
+    )
 
 pub returns-then-not-are_terms : goal.returns-then-not-are_terms
 returns-then-not-are_terms c = λ d h.
     let ns = c.args.normals.now in
     let k = c.args.k in
-    let e : c.index-normals-k.result ≡ get_or ns k [] = c.index-normals-k.is ∙ get_or_any ns k _ [] c.requires.place in
-    ((λ t. absurd (no false refl t)),
+    let e : c.index-normals-k.result ≡ get_or ns k [] = c.index-normals-k.is ∙ get_or_any ns k _ [] c.requires.place in (
+      (λ t. absurd (no false refl t)),
       (λ p. (let q = right_parts d ns k c.args.scale c.args.terms.now h c.requires.place (occupied c.index-normals-k.result (get_or ns k []) c.dimension.result e c.dimension.ensures.value c.dimension.ensures.low) p in
-        absurd (no c.are_terms.result c.if-not-are_terms.true (c.are_terms.ensures.1 q.terms)))))
+          absurd (no c.are_terms.result c.if-not-are_terms.true (c.are_terms.ensures.1 q.terms)))),
+    )
 
 pub is_primitive-requires-clause-below : goal.is_primitive-requires-clause-below
 is_primitive-requires-clause-below c =
@@ -57,10 +55,11 @@ returns-then-not-is_primitive c = λ d h.
     let k = c.args.k in
     let y = c.ranges.scale in
     let e : c.index-normals-k.result ≡ get_or ns k [] = c.index-normals-k.is ∙ get_or_any ns k _ [] c.requires.place in
-    let v : c.as_slice.result.now ≡ c.args.scale ∷ coefficients c.args.terms.now = c.as_slice.ensures.value ∙ (simp to_z-of_z at c.with_scale.ensures) in
-    ((λ t. absurd (no false refl t)),
+    let v : c.as_slice.result.now ≡ c.args.scale ∷ coefficients c.args.terms.now = c.as_slice.ensures.value ∙ (simp to_z-of_z at c.with_scale.ensures) in (
+      (λ t. absurd (no false refl t)),
       (λ p. (let q = right_parts d ns k c.args.scale c.args.terms.now h c.requires.place (occupied c.index-normals-k.result (get_or ns k []) c.dimension.result e c.dimension.ensures.value c.dimension.ensures.low) p in
-        absurd (no c.is_primitive.result c.if-not-is_primitive.true (c.is_primitive.ensures.1 (subst IsPrimitive (sym v) q.primitive))))))
+          absurd (no c.is_primitive.result c.if-not-is_primitive.true (c.is_primitive.ensures.1 (subst IsPrimitive (sym v) q.primitive))))),
+    )
 
 pub returns : goal.returns
 returns c = λ d h.
@@ -74,6 +73,7 @@ returns c = λ d h.
     let t : AreTerms 0 (length ns) k c.args.terms.now = c.are_terms.ensures.0 c.if-not-are_terms.false in
     let v : c.as_slice.result.now ≡ c.args.scale ∷ coefficients c.args.terms.now = c.as_slice.ensures.value ∙ (simp to_z-of_z at c.with_scale.ensures) in
     let i : IsPrimitive (c.args.scale ∷ coefficients c.args.terms.now) = subst IsPrimitive v (c.is_primitive.ensures.0 c.if-not-is_primitive.false) in
-    let m = simp to_z-of_z at c.sums_match.ensures in
-    ((λ b. parts_right d ns k c.args.scale c.args.terms.now h c.requires.place record { some = r.0; small = r.1; occupied = r.2; few = rw n at r.3; terms = t; primitive = i; sums = m.0 b }),
-      (λ p. m.1 (right_parts d ns k c.args.scale c.args.terms.now h c.requires.place (occupied c.index-normals-k.result (get_or ns k []) c.dimension.result e c.dimension.ensures.value c.dimension.ensures.low) p).sums))
+    let m = simp to_z-of_z at c.sums_match.ensures in (
+      (λ b. parts_right d ns k c.args.scale c.args.terms.now h c.requires.place record { some = r.0; small = r.1; occupied = r.2; few = rw n at r.3; terms = t; primitive = i; sums = m.0 b }),
+      (λ p. m.1 (right_parts d ns k c.args.scale c.args.terms.now h c.requires.place (occupied c.index-normals-k.result (get_or ns k []) c.dimension.result e c.dimension.ensures.value c.dimension.ensures.low) p).sums),
+    )

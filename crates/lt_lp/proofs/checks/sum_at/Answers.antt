@@ -1,7 +1,6 @@
-use Rattle.std.proofs.Common.{rules, arith, ◌≡◌, sym, ◌∙◌, ap, ◌+◌, ◌<◌, ◌≤◌, ◌*◌, ◌^◌, ◌+ℤ◌, ◌*ℤ◌, ℕ, ℤ, pos, List, [], length, get_or, drop, nat_abs, FitsSigned, Fits, w64, to_z}
+use Rattle.std.proofs.Common.{rules, arith, ◌≡◌, ◌∙◌, ◌+◌, ◌<◌, ◌^◌, ◌+ℤ◌, ◌*ℤ◌, ℤ, pos, [], length, get_or, drop, nat_abs, FitsSigned, to_z}
 use Rattle.std.specs.Int.{w128}
 use Rattle.std.proofs.lemmas.Int.{ints, to_z-of_z}
-use Rattle.lt_model.specs.Padded.{lookup}
 use Rattle.lt_tableau.proofs.Sums.{lookup_is}
 use Rattle.lt_tableau.proofs.Turned.{get_or_any}
 use Rattle.lt_lp.specs.Checks.{term_sum}

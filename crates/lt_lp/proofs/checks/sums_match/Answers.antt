@@ -1,6 +1,6 @@
 use Rattle.std.proofs.Common.{refl, false, true, rules, arith, ◌≡◌, sym, ◌∙◌, ap, ◌<◌, ◌≤◌, ◌*◌, ◌^◌, ◌+◌, ◌*ℤ◌, ℕ, ℤ, pos, List, [], length, get_or, nat_abs, FitsSigned, to_z, of_z, mul-le-mul}
 use Rattle.std.specs.Int.{w128}
-use Rattle.std.proofs.lemmas.Int.{ints, to_z-of_z, unsigned_abs-mul, fits_signed_from_abs}
+use Rattle.std.proofs.lemmas.Int.{to_z-of_z, unsigned_abs-mul, fits_signed_from_abs}
 use native.Mathlib.Decide.{ℕ_discrete}
 use Rattle.lt_model.specs.Padded.{lookup}
 use Rattle.lt_tableau.proofs.Sums.{lookup_is}

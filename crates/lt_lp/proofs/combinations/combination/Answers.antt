@@ -1,4 +1,4 @@
-use Rattle.std.proofs.Common.{suc, refl, rules, arith, ◌≡◌, ◌∙◌, sym, ap, subst, ◌≤◌, ◌<◌, ◌-◌, ◌*◌, ◌^◌, ℕ, ℤ, pos, ◌-ℤ◌, ◌≢◌, List, [], ◌∷◌, drop, length, nat_abs, slice_index_or, FitsSigned, to_z}
+use Rattle.std.proofs.Common.{suc, refl, rules, arith, ◌≡◌, ◌∙◌, sym, ap, subst, ◌≤◌, ◌<◌, ◌-◌, ◌*◌, ◌^◌, ℕ, ℤ, pos, ◌-ℤ◌, List, [], ◌∷◌, drop, length, nat_abs, slice_index_or, FitsSigned}
 use Rattle.std.specs.Int.{w128}
 use Rattle.std.proofs.lemmas.Int.{ints, to_z-of_z, fits_signed_from_abs}
 use Rattle.std.proofs.lemmas.List.Elements.{All-cons}

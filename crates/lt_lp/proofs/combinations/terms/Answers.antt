@@ -1,8 +1,8 @@
-use Rattle.std.proofs.Common.{refl, rules, arith, FitsSigned, ◌≡◌, ◌≢◌, ◌∙◌, sym, ap, ◌++◌, ◌∷◌, [], ℕ, ℤ, List, pos, to_z}
+use Rattle.std.proofs.Common.{refl, rules, FitsSigned, ◌≡◌, ◌≢◌, ◌∙◌, sym, ap, ◌++◌, ◌∷◌, [], pos, to_z}
 use Rattle.std.specs.Int.{w128}
 use Rattle.std.proofs.lemmas.Int.{to_z-of_z}
 use Rattle.lt_lp.specs.Terms.{value_of, place_of, terms_from}
-use Rattle.lt_lp.proofs.TermLoops.{terms_some, terms_none, terms_room}
+use Rattle.lt_lp.proofs.TermLoops.{terms_some, terms_none}
 use Rattle.lt_lp.proofs.combinations.terms.Goals as goal
 use Rattle.lt_lp.proofs.combinations.terms.Goals.{then-number-ne0, else-number-ne0}
 

@@ -1,4 +1,4 @@
-use Rattle.std.proofs.Common.{rules, arith, FitsSigned, to_z, ◌≡◌, ◌+ℤ◌, sym, ◌∙◌}
+use Rattle.std.proofs.Common.{rules, arith, FitsSigned, to_z, ◌+ℤ◌, sym, ◌∙◌}
 use Rattle.std.specs.Int.{w128}
 use Rattle.std.proofs.lemmas.Int.{to_z-of_z}
 use Rattle.lt_tableau.specs.Table.{right_of, count_of}

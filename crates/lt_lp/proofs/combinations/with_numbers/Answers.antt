@@ -1,4 +1,4 @@
-use Rattle.std.proofs.Common.{rules, arith, ◌≡◌, ◌∙◌, sym, ap, ◌<◌, ◌≤◌, ℕ, ℤ, List, length, take}
+use Rattle.std.proofs.Common.{rules, arith, ◌≡◌, ◌∙◌, sym, ap, ◌≤◌, ℕ, length, take}
 use Rattle.std.proofs.lemmas.List.{length-map}
 use Rattle.lt_model.specs.Cones.{places}
 use Rattle.lt_lp.proofs.combinations.with_numbers.Goals as goal

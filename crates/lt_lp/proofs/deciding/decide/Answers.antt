@@ -1,4 +1,4 @@
-use Rattle.std.proofs.Common.{rules, arith, ◌≡◌, ◌≢◌, ◌∙◌, sym, ap, ◌≤◌, ◌<◌, ℕ, suc, ℤ, pos, List, [], length, get_or, FitsSigned, to_z, of_z}
+use Rattle.std.proofs.Common.{rules, arith, ◌≡◌, ◌≢◌, ◌∙◌, sym, ap, ◌≤◌, ◌<◌, ℕ, ℤ, pos, List, [], length, get_or, FitsSigned, to_z, of_z}
 use Rattle.std.specs.Int.{w128}
 use Rattle.std.proofs.lemmas.Int.{to_z-of_z}
 use Rattle.lt_model.specs.Forms.{numbers_of_form}
@@ -6,7 +6,7 @@ use Rattle.lt_lp.specs.Rule.{objective_of}
 use Rattle.lt_lp.specs.Verdicts.{verdict_of}
 use Rattle.lt_tableau.proofs.Turned.{get_or_any}
 use Rattle.lt_lattice.proofs.Lengths.{at_most_21}
-use Rattle.lt_lp.proofs.Combined.{IsCase, case_scale, case_few}
+use Rattle.lt_lp.proofs.Combined.{case_scale, case_few}
 use Rattle.lt_lp.proofs.Decided.{case_of, wall_occupied, decided_wall, decided_combination, some_numbers}
 use Rattle.lt_lp.proofs.deciding.decide.Goals as goal
 

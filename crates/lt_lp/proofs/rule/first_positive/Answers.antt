@@ -1,4 +1,4 @@
-use Rattle.std.proofs.Common.{ℕ, ◌<◌, ◌≤ℤ◌, pos, arith}
+use Rattle.std.proofs.Common.{ℕ, arith}
 use Rattle.std.proofs.lemmas.Int.{ints}
 use Rattle.lt_tableau.specs.Table.{entry_of}
 use Rattle.lt_lp.proofs.Leaves.{none_positive}

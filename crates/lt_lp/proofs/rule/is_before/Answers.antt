@@ -1,8 +1,6 @@
-use Rattle.std.proofs.Common.{ℕ, ◌≡◌, ◌≢◌, sym, ◌∙◌, ◌<◌, ◌≤◌, ◌^◌, ◌*ℤ◌, ◌<ℤ◌, nat_abs, arith, rules, FitsSigned}
+use Rattle.std.proofs.Common.{◌≡◌, sym, ◌<◌, ◌^◌, ◌*ℤ◌, ◌<ℤ◌, nat_abs, arith, rules, FitsSigned}
 use Rattle.std.specs.Int.{w128}
 use Rattle.std.proofs.lemmas.Int.{ints, to_z-of_z}
-use Rattle.lt_tableau.specs.Table.{entry_of}
-use Rattle.lt_lp.specs.Rule.{number_of}
 use Rattle.lt_lp.proofs.Loops.{product_fits_both, tied_more}
 use Rattle.lt_lp.proofs.Leaves.{no_tie}
 use Rattle.lt_lp.proofs.rule.is_before.Goals as goal

@@ -1,7 +1,7 @@
-use Rattle.std.proofs.Common.{refl, ◌≡◌, arith, rules, FitsSigned, nat_abs, ◌<◌, ◌^◌, ◌-◌, ◌+◌}
+use Rattle.std.proofs.Common.{refl, ◌≡◌, arith, rules, FitsSigned, ◌-◌, ◌+◌}
 use Rattle.std.specs.Int.{w128}
 use Rattle.std.proofs.lemmas.Int.{to_z-of_z}
-use Rattle.lt_tableau.specs.Table.{count_of, units_of, entry_of}
+use Rattle.lt_tableau.specs.Table.{count_of, units_of}
 use Rattle.lt_lp.proofs.rule.number.Goals as goal
 
 pub returns-then-place-eq0-clause-small : goal.returns-then-place-eq0-clause-small

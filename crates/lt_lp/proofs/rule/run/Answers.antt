@@ -1,4 +1,4 @@
-use Rattle.std.proofs.Common.{◌≡◌, ◌∙◌, ap}
+use Rattle.std.proofs.Common.{◌∙◌}
 use Rattle.lt_lp.specs.Rule.{IsPivotOf}
 use Rattle.lt_lp.proofs.Falls.{measure_falls}
 use Rattle.lt_lp.proofs.Leaves.{ready_step}

@@ -1,4 +1,4 @@
-use Rattle.std.proofs.Common.{◌≡◌, ◌∙◌, sym, ap, ◌≤◌, ◌<◌, [], length, get_or, arith, ℤ}
+use Rattle.std.proofs.Common.{◌≡◌, ◌∙◌, sym, ap, ◌≤◌, [], length, get_or, ℤ}
 use Rattle.lt_lp.proofs.Readies.{system_ready}
 use Rattle.lt_tableau.proofs.Turned.{get_or_any}
 use Rattle.lt_lp.proofs.rule.stopped.Goals as goal

@@ -1,4 +1,4 @@
-use Rattle.std.proofs.Common.{◌≡◌, ◌≤◌, ◌+◌, ◌*◌, ◌*ℤ◌, ◌^◌, ℕ, nat_abs}
+use Rattle.std.proofs.Common.{◌≡◌, ◌≤◌, ◌*◌, ◌*ℤ◌, ◌^◌, ℕ, nat_abs}
 use Rattle.lt_model.specs.Padded.{lookup}
 use Rattle.lt_tableau.specs.Numbers.{column_at, sum_below}
 use Rattle.lt_lp.proofs.sums.gain.Given as goal

@@ -1,4 +1,4 @@
-use Rattle.std.proofs.Common.{◌≡◌, ◌<◌, ◌≤◌, ◌^◌, ◌+ℤ◌, nat_abs, arith, rules, FitsSigned, to_z}
+use Rattle.std.proofs.Common.{◌<◌, ◌≤◌, ◌+ℤ◌, arith, rules, FitsSigned, to_z}
 use Rattle.std.specs.Int.{w128}
 use Rattle.std.proofs.lemmas.Int.{to_z-of_z}
 use Rattle.lt_tableau.specs.Table.{right_of, count_of, basic_of, units_of}

@@ -1,7 +1,7 @@
-use Rattle.std.proofs.Common.{ℕ, ◌≡◌, ◌<◌, ◌≤◌, ◌^◌, ◌+◌, ◌+ℤ◌, nat_abs, arith, rules, FitsSigned, to_z}
+use Rattle.std.proofs.Common.{ℕ, ◌<◌, ◌≤◌, ◌+◌, ◌+ℤ◌, arith, rules, FitsSigned, to_z}
 use Rattle.std.specs.Int.{w128}
 use Rattle.std.proofs.lemmas.Int.{to_z-of_z}
-use Rattle.lt_tableau.specs.Table.{entry_of, count_of, basic_of, units_of}
+use Rattle.lt_tableau.specs.Table.{entry_of, basic_of, units_of}
 use Rattle.lt_lp.proofs.Loops.{sum_more, sum_skip, sum_fits_row}
 use Rattle.lt_lp.proofs.sums.unit_sum.Goals as goal
 use Rattle.lt_lp.proofs.sums.unit_sum.Goals.{then-basic-first, else-basic-first}

@@ -1,4 +1,4 @@
-use Rattle.std.proofs.Common.{refl, ◌≡◌, ◌<◌, ◌≤◌, ◌+◌, ◌*◌, ◌^◌, sym, ◌∙◌, ap, ℕ, zero, suc, ℤ, pos, List, [], length, set, length-set, get_or-set_same, get_or-set_other, nat_abs, arith, rules, FitsSigned}
+use Rattle.std.proofs.Common.{refl, ◌≡◌, ◌<◌, ◌≤◌, ◌+◌, ◌*◌, ◌^◌, sym, ◌∙◌, ℕ, zero, suc, ℤ, pos, List, [], length, set, length-set, get_or-set_same, get_or-set_other, nat_abs, arith, rules, FitsSigned}
 use Rattle.std.specs.Int.{w128}
 use Rattle.std.proofs.lemmas.Int.{to_z-of_z}
 use native.Mathlib.Decide.{ℕ_discrete}
@@ -27,11 +27,14 @@ step f b xs i v l h d r e s = record {
   where
     own : lookup (set xs i v) i ≡ v
     own = lookup_is (set xs i v) i ∙ get_or-set_same xs i v (pos 0) (rw l h)
+
     other : (k : ℕ) → (k ≡ i → ⊥) → lookup (set xs i v) k ≡ lookup xs k
     other k n = lookup_is (set xs i v) k ∙ get_or-set_other xs i k v (pos 0) n ∙ sym (lookup_is xs k)
+
     pick : (k : ℕ) → k < i + 1 → Dec (k ≡ i) → lookup (set xs i v) k ≡ f k
     pick k c (yes q) = rw q (own ∙ e)
     pick k c (no q) = other k q ∙ d k (omega arith)
+
     less : (k : ℕ) → Dec (k ≡ i) → nat_abs (lookup (set xs i v) k) ≤ b
     less k (yes q) = rw (q, own) s
     less k (no q) = rw (other k q) (r k)

@@ -1,10 +1,10 @@
-use Rattle.std.proofs.Common.{rules, arith, ◌≡◌, ◌∙◌, sym, ap, ◌≤◌, ◌<◌, ◌^◌, ◌*◌, ◌+◌, ◌-◌, ◌-ℤ◌, ◌++◌, ◌∷◌, [], ℕ, ℤ, pos, neg_ℤ, length, nat_abs, slice_index_or, FitsSigned, subst}
+use Rattle.std.proofs.Common.{rules, arith, ◌≡◌, ◌∙◌, sym, ap, ◌≤◌, ◌<◌, ◌^◌, ◌*◌, ◌+◌, ◌-ℤ◌, ◌++◌, ◌∷◌, [], ℕ, ℤ, pos, neg_ℤ, length, nat_abs, slice_index_or, FitsSigned, subst}
 use Rattle.std.specs.Int.{w128}
 use Rattle.std.proofs.lemmas.Int.{ints, to_z-of_z, fits_signed_from_abs}
 use Rattle.lt_model.specs.Cones.{AreBelow}
 use Rattle.lt_tableau.specs.Table.{units_of}
 use Rattle.lt_tableau.proofs.Sums.{lookup_is}
-use Rattle.lt_lp.specs.Rule.{gain_of, listed}
+use Rattle.lt_lp.specs.Rule.{gain_of}
 use Rattle.lt_lp.proofs.Turned.{length-listed, listed_more, listed_below}
 use Rattle.lt_lp.proofs.walls.turned.Goals as goal
 

@@ -1,4 +1,4 @@
-use Rattle.std.proofs.Common.{◌≡◌, ◌<◌, ◌^◌, ◌+◌, ℕ, neg_ℤ, nat_abs}
+use Rattle.std.proofs.Common.{◌≡◌, ◌+◌, ℕ, neg_ℤ}
 use Rattle.lt_tableau.specs.Table.{units_of}
 use Rattle.lt_lp.specs.Rule.{gain_of, listed}
 use Rattle.lt_lp.proofs.walls.turned.Given as goal

@@ -1,7 +1,6 @@
-use Rattle.std.proofs.Common.{arith, ◌≡◌, ◌∙◌, sym, ap, ◌<◌, ◌+◌, ◌-◌, ℕ, ℤ, List, pos, neg_ℤ, length, suc, drop}
+use Rattle.std.proofs.Common.{arith, ◌≡◌, ◌∙◌, sym, ap, ◌+◌, ◌-◌, ℕ, ℤ, List, pos, neg_ℤ, length, drop}
 use Rattle.std.proofs.lemmas.Int.{ints}
 use Rattle.lt_model.specs.Padded.{lookup}
-use Rattle.lt_model.specs.Forms.{numbers_of_form}
 use Rattle.lt_model.proofs.Squares.{length-scale}
 use Rattle.lt_tableau.specs.Table.{units_of}
 use Rattle.lt_lp.specs.Rule.{gain_of, turned_gains}
