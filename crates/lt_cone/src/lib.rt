@@ -1,0 +1,2 @@
+//! C.
+#![tactic(auto)]
