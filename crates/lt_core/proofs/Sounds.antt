@@ -5,14 +5,14 @@ use Rattle.std.specs.Prelude.{true, false, Bool}
 use Rattle.std.specs.declared.alloc.Global.{Global}
 use Rattle.lt_model.specs.Walls.{IsAcross}
 use Rattle.lt_model.specs.Matrices.{identity}
-use Rattle.lt_model.specs.Atlases.{undecided, one_if_open}
+use Rattle.lt_model.specs.Atlases.{undecided, stuck, one_if_open, one_if_stuck}
 use Rattle.lt_model.specs.Atlases as model
 use Rattle.lt_model.specs.RightAtlases.{IsOrderly, IsOpenAt, AreRight, open_places, fresh_atlas}
 use Rattle.lt_core.proofs.Starting.{kept_fresh, length-open_places}
 use Rattle.lt_model.specs.Logs.{IsCause, IsLegal, IsKept, IsCandidate}
 use Rattle.lt_core.proofs.Undo.{length_more, same_atlas}
 use Rattle.lt_core.proofs.Kept.{kept_push, kept_grow, cause_not_open, legal_new}
-use Rattle.lt_core.proofs.Counting.{count-set_mark, count-more, open-opens}
+use Rattle.lt_core.proofs.Counting.{count-set_mark, count-more, count-opens, open-opens}
 use Rattle.lt_core.specs.declared.marks.Mark.{Mark}
 use Rattle.lt_core.specs.declared.marks.Mark.TheVariants.{Cross}
 use Rattle.std.specs.declared.option.Option.TheVariants.{Some}
@@ -77,31 +77,43 @@ not_open_counts (model.heavy n) h = refl
 legal_not_open : (a : model.Atlas) (all : List model.Entry) (p : ℕ) (m : model.Mark) (f : Bool) → IsLegal (IsAcross a.dimension) a all (record { position = p; mark = m; fresh = f }) → one_if_open m ≡ 0
 legal_not_open a all p m f l = not_open_counts m (cause_not_open a.dimension a.entries all (model.place_at a.queue p) l.across m f l.cause)
 
-pub some_open : (a : model.Atlas) (n c : ℕ) (all : List model.Entry) (p : ℕ) (m : model.Mark) (f : Bool) → IsSound a n c → IsLegal (IsAcross a.dimension) a all (record { position = p; mark = m; fresh = f }) → 1 ≤ n
-some_open a n c all p m f s l =
+pub some_open : (a : model.Atlas) (n x c : ℕ) (all : List model.Entry) (p : ℕ) (m : model.Mark) (f : Bool) → IsSound a n x c → IsLegal (IsAcross a.dimension) a all (record { position = p; mark = m; fresh = f }) → 1 ≤ n
+some_open a n x c all p m f s l =
     let e = undecided-set_mark a.marks (model.place_at a.queue p) m l.position.undecided (legal_not_open a all p m f l) in
     let k = s.counted in
     omega arith
 
-pub sound_push : (a : model.Atlas) (n c c' : ℕ) (p : ℕ) (m : model.Mark) → IsSound a n c → IsLegal (IsAcross a.dimension) a a.entries (record { position = p; mark = m; fresh = false }) → c ≤ c' → IsSound (model.push a p m) (n - 1) c'
-sound_push a n c c' p m s l lc =
+pub sound_push : (a : model.Atlas) (n x c c' : ℕ) (p : ℕ) (m : model.Mark) → IsSound a n x c → IsLegal (IsAcross a.dimension) a a.entries (record { position = p; mark = m; fresh = false }) → c ≤ c' → IsSound (model.push a p m) (n - 1) (x + one_if_stuck m) c'
+sound_push a n x c c' p m s l lc =
     let e = undecided-set_mark a.marks (model.place_at a.queue p) m l.position.undecided (legal_not_open a a.entries p m false l) in
+    let f = count-set_mark one_if_stuck a.marks (model.place_at a.queue p) m l.position.undecided in
     let k = s.counted in
+    let j = s.counted_stuck in
     let r = s.room in
+    let h = s.few_stuck in
+    let one = stuck_once m in
     let g = length_more a.log (record { position = p; mark = m; fresh = false }) in
     record {
       kept = kept_push (IsAcross a.dimension) a p m s.kept l;
       counted = omega arith;
+      counted_stuck = omega arith;
+      few_stuck = omega arith;
       room = omega arith;
       few = s.few;
       low = s.low;
       high = s.high;
     }
+  where
+    stuck_once : (m : model.Mark) → one_if_stuck m ≤ 1
+    stuck_once model.open_mark = omega arith
+    stuck_once (model.cross k u) = omega arith
+    stuck_once (model.wide t n) = omega arith
+    stuck_once (model.heavy n) = omega arith
 
 -- the fields after an event mean the atlas with that event
-pub value_push : (i : Inside) (marks : Vec (Vec Mark Global) Global) (log : Vec Event Global) (n p : ℕ) (x : ℕ × ℕ) (m : model.Mark) (e : Event) → model.place_at (value_of i).queue p ≡ x → marks_of marks.items ≡ model.set_mark (marks_of i.marks.items) x m → log.items ≡ i.log.items ++ e ∷ [] → event_of e ≡ record { position = p; mark = m; fresh = false } → value_of (record { dimension = i.dimension; entries = i.entries; marks = marks; queue = i.queue; log = log; undecided = n }) ≡ model.push (value_of i) p m
-value_push i marks log n p x m e hx hm hl he =
-    same_atlas (value_of (record { dimension = i.dimension; entries = i.entries; marks = marks; queue = i.queue; log = log; undecided = n })) (model.push (value_of i) p m) refl refl
+pub value_push : (i : Inside) (marks : Vec (Vec Mark Global) Global) (log : Vec Event Global) (n s p : ℕ) (x : ℕ × ℕ) (m : model.Mark) (e : Event) → model.place_at (value_of i).queue p ≡ x → marks_of marks.items ≡ model.set_mark (marks_of i.marks.items) x m → log.items ≡ i.log.items ++ e ∷ [] → event_of e ≡ record { position = p; mark = m; fresh = false } → value_of (record { dimension = i.dimension; entries = i.entries; marks = marks; queue = i.queue; log = log; undecided = n; stuck = s }) ≡ model.push (value_of i) p m
+value_push i marks log n s p x m e hx hm hl he =
+    same_atlas (value_of (record { dimension = i.dimension; entries = i.entries; marks = marks; queue = i.queue; log = log; undecided = n; stuck = s })) (model.push (value_of i) p m) refl refl
     (hm ∙ ap (λ q. model.set_mark (marks_of i.marks.items) q m) (sym hx))
     refl
     (ap (map event_of) hl ∙ map-append event_of i.log.items (e ∷ []) ∙ ap (λ y. map event_of i.log.items ++ y ∷ []) he)
@@ -131,18 +143,24 @@ identity_rows (suc (suc (suc (suc (suc zero))))) low high = refl
 identity_rows (suc (suc (suc (suc (suc (suc zero)))))) low high = refl
 identity_rows (suc (suc (suc (suc (suc (suc (suc d))))))) low high = absurd (omega arith)
 
-pub sound_grow : (a : model.Atlas) (n c c' : ℕ) (p : ℕ) (e : model.Entry) → IsSound a n c → length a.entries < 2 ^ 30 → IsLegal (IsAcross a.dimension) a (a.entries ++ e ∷ []) (record { position = p; mark = model.cross (length a.entries) (identity a.dimension); fresh = true }) → length a.log + n + length (model.facets e) ≤ c' → IsSound (model.grow a p e) (n - 1 + length (model.facets e)) c'
-sound_grow a n c c' p e s w l lc =
+pub sound_grow : (a : model.Atlas) (n z c c' : ℕ) (p : ℕ) (e : model.Entry) → IsSound a n z c → length a.entries < 2 ^ 30 → IsLegal (IsAcross a.dimension) a (a.entries ++ e ∷ []) (record { position = p; mark = model.cross (length a.entries) (identity a.dimension); fresh = true }) → length a.log + n + length (model.facets e) ≤ c' → IsSound (model.grow a p e) (n - 1 + length (model.facets e)) z c'
+sound_grow a n z c c' p e s w l lc =
     let it : model.Mark = model.cross (length a.entries) (identity a.dimension) in
     let changed : List (List model.Mark) = model.set_mark a.marks (model.place_at a.queue p) it in
     let f : ℕ = length (model.facets e) in
     let k = s.counted in
     let x : suc (undecided changed) ≡ undecided a.marks = undecided-set_mark a.marks (model.place_at a.queue p) it l.position.undecided refl in
     let y : undecided (changed ++ model.opens f ∷ []) ≡ undecided changed + f = count-more one_if_open changed (model.opens f) ∙ ap (λ z. undecided changed + z) (open-opens f) in
+    let q : stuck changed + 0 ≡ stuck a.marks + 0 = count-set_mark one_if_stuck a.marks (model.place_at a.queue p) it l.position.undecided in
+    let r : stuck (changed ++ model.opens f ∷ []) ≡ stuck changed + 0 = count-more one_if_stuck changed (model.opens f) ∙ ap (λ z. stuck changed + z) (count-opens one_if_stuck f refl) in
+    let j = s.counted_stuck in
+    let h = s.few_stuck in
     let g = length_more a.log (record { position = p; mark = it; fresh = true }) in
     record {
       kept = kept_grow (IsAcross a.dimension) a p e s.kept l;
       counted = omega arith;
+      counted_stuck = omega arith;
+      few_stuck = omega arith;
       room = omega arith;
       few = (let z = length_more a.entries e in omega arith);
       low = s.low;
@@ -175,8 +193,8 @@ value_grow i after p x e row k u v hd hx hk hu he marks hm hr hn hq hl hv =
      ∙ ap (λ ps. (value_of i).queue ++ ps) (map-id (model.places_from k 0 n) ∙ ap (λ j. model.places_from j 0 n) hk))
     (ap (map event_of) hl ∙ map-append event_of i.log.items (v ∷ []) ∙ ap (λ y. map event_of i.log.items ++ y ∷ []) (hv ∙ ap (λ m. record { position = p; mark = m; fresh = true }) c))
 
-pub some_open_here : (a : model.Atlas) (n c p : ℕ) → IsSound a n c → IsOpenAt a p → 1 ≤ n
-some_open_here a n c p s o =
+pub some_open_here : (a : model.Atlas) (n x c p : ℕ) → IsSound a n x c → IsOpenAt a p → 1 ≤ n
+some_open_here a n x c p s o =
     let e = undecided-set_mark a.marks (model.place_at a.queue p) (model.heavy 0) o.undecided refl in
     let k = s.counted in
     omega arith
@@ -198,7 +216,7 @@ module _ (i after : Inside) (b : model.Atlas) (p : ℕ) (t : List (List (List �
   (hr : after.marks.items ≡ marks.items ++ row ∷ []) (ho : map mark_of row.items ≡ model.opens n)
   (hq : after.queue.items ≡ i.queue.items ++ model.places_from k 0 n)
   (hl : after.log.items ≡ i.log.items ++ record { position = p; mark = Cross k u'; fresh = true } ∷ [])
-  (hw : length b.entries < 2 ^ 30) (hund : after.undecided ≡ i.undecided - 1 + n) (hcap : vec_len i.log + (i.undecided + n) ≤ vec_capacity after.log) where
+  (hw : length b.entries < 2 ^ 30) (hund : after.undecided ≡ i.undecided - 1 + n) (hst : after.stuck ≡ i.stuck) (hcap : vec_len i.log + (i.undecided + n) ≤ vec_capacity after.log) where
 
   abbrev new : Entry
   new = record { triangulation = t; cone = cone; origin = Some x }
@@ -224,15 +242,16 @@ module _ (i after : Inside) (b : model.Atlas) (p : ℕ) (t : List (List (List �
   pub keeps_extended : KeepsAtlas after
   keeps_extended =
       let lg : length (value_of i).log ≡ vec_len i.log = length-map i.log.items event_of ∙ sym i.log.ok.0 in
-      let s = sound_grow (value_of i) i.undecided (vec_capacity i.log) (vec_capacity after.log) p (candidate (value_of i) p t cone) inv (subst (λ (z : model.Atlas). length z.entries < 2 ^ 30) (sym hb) hw) (legal_grow_inside i b p t cone hb o c) (omega arith) in
-      subst (λ (j : ℕ). IsSound (value_of after) j (vec_capacity after.log)) (ap (λ j. i.undecided - 1 + j) (sym hn) ∙ sym hund)
-      (subst (λ (z : model.Atlas). IsSound z (i.undecided - 1 + length (model.facets_of cone.rows)) (vec_capacity after.log)) (sym value_inside) s)
+      let s = sound_grow (value_of i) i.undecided i.stuck (vec_capacity i.log) (vec_capacity after.log) p (candidate (value_of i) p t cone) inv (subst (λ (z : model.Atlas). length z.entries < 2 ^ 30) (sym hb) hw) (legal_grow_inside i b p t cone hb o c) (omega arith) in
+      subst (λ (y : ℕ). IsSound (value_of after) after.undecided y (vec_capacity after.log)) (sym hst)
+      (subst (λ (j : ℕ). IsSound (value_of after) j i.stuck (vec_capacity after.log)) (ap (λ j. i.undecided - 1 + j) (sym hn) ∙ sym hund)
+       (subst (λ (z : model.Atlas). IsSound z (i.undecided - 1 + length (model.facets_of cone.rows)) i.stuck (vec_capacity after.log)) (sym value_inside) s))
 
 -- ---- the start
 
-pub sound_fresh : (d : ℕ) (es : List model.Entry) (ms : List (List model.Mark)) (n c : ℕ) → 2 ≤ d → d ≤ 6 → AreRight (IsAcross d) d es ms → length es ≤ 100001 → n ≡ length (open_places 0 ms) → n ≤ c → IsSound (fresh_atlas d es ms) n c
-sound_fresh d es ms n c low high h w e l =
-    record { low = low; high = high; kept = kept_fresh (IsAcross d) d es ms h; counted = e ∙ length-open_places 0 ms; room = omega arith; few = omega arith }
+pub sound_fresh : (d : ℕ) (es : List model.Entry) (ms : List (List model.Mark)) (n c : ℕ) → stuck ms ≡ 0 → 2 ≤ d → d ≤ 6 → AreRight (IsAcross d) d es ms → length es ≤ 100001 → n ≡ length (open_places 0 ms) → n ≤ c → IsSound (fresh_atlas d es ms) n 0 c
+sound_fresh d es ms n c none low high h w e l =
+    record { low = low; high = high; kept = kept_fresh (IsAcross d) d es ms h; counted = e ∙ length-open_places 0 ms; counted_stuck = sym none; few_stuck = omega arith; room = omega arith; few = omega arith }
 
 pub value_fresh : (i : Inside) → i.queue.items ≡ open_places 0 (marks_of i.marks.items) → i.log.items ≡ [] → value_of i ≡ fresh_atlas i.dimension (map entry_of i.entries.items) (marks_of i.marks.items)
 value_fresh i hq hl =

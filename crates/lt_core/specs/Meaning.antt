@@ -16,4 +16,4 @@ value_of a = record {
 }
 
 abbrev pub KeepsAtlas : Inside → Type 0
-KeepsAtlas a = IsSound (value_of a) a.undecided (vec_capacity a.log)
+KeepsAtlas a = IsSound (value_of a) a.undecided a.stuck (vec_capacity a.log)

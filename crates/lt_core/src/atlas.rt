@@ -1,8 +1,8 @@
 //! The atlas and its recordings.
 
-ghost use Rattle.std.specs.Prelude.{◌≡◌, ◌≢◌, ◌<◌, ◌≤◌, ◌+◌, ◌^◌, ℕ, length, get_or, map, false};
+ghost use Rattle.std.specs.Prelude.{◌≡◌, ◌≢◌, ◌<◌, ◌≤◌, ◌+◌, ◌^◌, ℕ, length, get_or, map, false, []};
 ghost use Rattle.std.specs.Result.{OnOk, OnErr, IfOk, IfErr, MatchResult};
-ghost use Rattle.lt_model.specs.Atlases.{open_mark, cross, mark_at, place_at, push, grow, undecided};
+ghost use Rattle.lt_model.specs.Atlases.{open_mark, cross, entry_at, mark_at, place_at, push, grow, undecided, stuck, one_if_stuck};
 ghost use Rattle.lt_model.specs.Walls.{IsAcross};
 ghost use Rattle.lt_model.specs.Logs.{IsLegal, IsKept, IsCandidate, IsStuck};
 ghost use Rattle.lt_model.specs.RightAtlases.{IsOpenAt, AreRight, fresh_atlas};
@@ -28,6 +28,7 @@ pub struct Atlas {
     queue: Vec<(u32, u32)>,
     log: Vec<Event>,
     undecided: usize,
+    stuck: usize,
 }
 
 impl Model for Atlas {
@@ -53,6 +54,7 @@ impl Atlas {
         requires right { AreRight (IsAcross dimension) dimension (map entry_of entries.items) (marks_of marks.items) }
         requires few { length entries.items ≤ 100001 }
         requires few_facets { (k : ℕ) → k < length marks.items → length (get_or (marks_of marks.items) k []) < 2 ^ 32 }
+        requires settled { stuck (marks_of marks.items) ≡ 0 }
         requires low { 2 ≤ dimension }
         requires high { dimension ≤ 6 }
         ensures { IfOk result (λ a. a ≡ fresh_atlas dimension (map entry_of entries.items) (marks_of marks.items)) }
@@ -68,6 +70,7 @@ impl Atlas {
             queue,
             log,
             undecided,
+            stuck: 0,
         })
     }
 
@@ -83,6 +86,54 @@ impl Atlas {
         ensures { result ≡ length self.now.queue }
     {
         self.queue.len() as u64
+    }
+
+    /// The entry and the facet at a position of the queue.
+    pub fn place(&self, position: u64) -> (u32, u32)
+        requires { position < length self.now.queue }
+        ensures entry { result.0 ≡ (place_at self.now.queue position).0 }
+        ensures facet { result.1 ≡ (place_at self.now.queue position).1 }
+    {
+        self.queue[position as usize]
+    }
+
+    /// The number of events in the log.
+    pub fn events(&self) -> u64
+        ensures { result ≡ length self.now.log }
+    {
+        self.log.len() as u64
+    }
+
+    /// The entry with the number `k`, from 0.
+    pub fn entry(&self, k: u32) -> &Entry
+        requires { k < length self.now.entries }
+        ensures { entry_of result.now ≡ entry_at self.now.entries k }
+    {
+        &self.entries[k as usize]
+    }
+
+    /// The mark of facet `facet` of the entry with the number `k`.
+    pub fn mark(&self, k: u32, facet: u32) -> &Mark
+        requires entry { k < length self.now.marks }
+        requires facet { facet < length (get_or self.now.marks k []) }
+        ensures { mark_of result.now ≡ mark_at self.now.marks (k, facet) }
+    {
+        &self.marks[k as usize][facet as usize]
+    }
+
+    /// The number of facets of the entry with the number `k`, each of which has a mark.
+    pub fn facets(&self, k: u32) -> usize
+        requires { k < length self.now.marks }
+        ensures { result ≡ length (get_or self.now.marks k []) }
+    {
+        self.marks[k as usize].len()
+    }
+
+    /// The number of wide and heavy marks.
+    pub fn stuck(&self) -> u64
+        ensures { result ≡ stuck self.now.marks }
+    {
+        self.stuck as u64
     }
 
     /// The number of open marks.
@@ -109,7 +160,8 @@ impl Atlas {
     }
 
     /// Writes a mark and its event, for which there is room.
-    fn note(&mut self, position: u64, mark: Mark, noted: Mark)
+    fn note(&mut self, position: u64, mark: Mark, noted: Mark, stuck: usize)
+        requires counted { stuck ≡ one_if_stuck (mark_of mark) }
         requires same { mark_of noted ≡ mark_of mark }
         requires legal { IsLegal (IsAcross self.old.dimension) self.old self.old.entries (record { position = position; mark = mark_of mark; fresh = false }) }
         ensures { self.new ≡ push self.old position (mark_of mark) }
@@ -117,6 +169,7 @@ impl Atlas {
         let (entry, facet) = self.queue[position as usize];
         put(&mut self.marks, entry as usize, facet as usize, mark);
         self.undecided -= 1;
+        self.stuck += stuck;
         match self.log.push(Event {
             position,
             mark: noted,
@@ -152,6 +205,7 @@ impl Atlas {
                 target,
                 matrix: noted,
             },
+            0,
         );
         Ok(())
     }
@@ -254,7 +308,7 @@ impl Atlas {
             return Err(Missed::Again { entries });
         }
         let noted = mark.copy();
-        self.note(position, mark, noted);
+        self.note(position, mark, noted, 1);
         Ok(())
     }
 

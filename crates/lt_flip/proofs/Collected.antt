@@ -23,16 +23,13 @@ pub record IsFlippable (d : ℕ) (a : List ℤ) (t : List (List (List ℤ))) (n 
   pub facet : IsFacet d t n
 
 -- what holds below m and at m holds below the next number
-next_too : (P : ℕ → Type 0) (m : ℕ) → ((i : ℕ) → i < m → P i) → P m → (i : ℕ) → i < suc m → P i
+pub next_too : (P : ℕ → Type 0) (m : ℕ) → ((i : ℕ) → i < m → P i) → P m → (i : ℕ) → i < suc m → P i
 next_too P m h p i l = below_more P m h p i (omega arith)
 
 -- what is made of a member stays in a longer list
 still_flipped : (d : ℕ) (t : List (List (List ℤ))) (n : List ℤ) (s : List (List ℤ)) (all more : List (List (List ℤ))) → ((r : List (List ℤ)) → Contains all r → Contains more r) → HasFlipped d t n s all → HasFlipped d t n s more
 still_flipped d t n s all more f (inl h) = inl (h.0, f s h.1)
 still_flipped d t n s all more f (inr h) = inr (record { vertex = h.vertex; scale = h.scale; coefficients = h.coefficients; outer = h.outer; each = λ k r m. f r (h.each k r m) })
-
-pub none_below : (d : ℕ) (t : List (List (List ℤ))) (n : List ℤ) → AreFlippedBelow d t n 0 []
-none_below d t n = record { only = λ s c. absurd (let l = c.1 in omega (arith, l)); each = λ i h. absurd (omega arith) }
 
 -- a member with the regulator at none of its facets stays
 pub kept_more : (d : ℕ) (a : List ℤ) (t : List (List (List ℤ))) (n : List ℤ) (m : ℕ) (all : List (List (List ℤ))) → IsFlippable d a t n → m < length t → AreFlippedBelow d t n m all → HasNoFacet d t (get_or t m []) n → AreFlippedBelow d t n (suc m) (all ++ get_or t m [] ∷ [])

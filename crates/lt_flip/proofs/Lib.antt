@@ -3,3 +3,6 @@ mod Near
 mod MadeClasses
 mod Collected
 mod Wide
+mod SortedPoints
+mod CellsBelow
+mod Dependencies

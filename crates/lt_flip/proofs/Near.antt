@@ -41,7 +41,7 @@ from_translate p (v ∷ vs) x c =
       | inr r ↦ (let s = from_translate p vs x r in (s.0, Contains-tail v vs s.0 s.1, s.2))
     ]
 
-near_translate : (d m : ℕ) (p : List ℤ) (vs : List (List ℤ)) → length p ≡ d → AllOfDimension d vs → AreNear m vs → AreNear m (translate p vs)
+pub near_translate : (d m : ℕ) (p : List ℤ) (vs : List (List ℤ)) → length p ≡ d → AllOfDimension d vs → AreNear m vs → AreNear m (translate p vs)
 near_translate d m p vs lp all near x y cx cy =
     let u = from_translate p vs x cx in
     let v = from_translate p vs y cy in

@@ -1,2 +1,4 @@
 pub mod Outers
 pub mod Flipped
+pub mod Ascending
+pub mod Cells

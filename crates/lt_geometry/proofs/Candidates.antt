@@ -1,8 +1,10 @@
 -- Each matrix that carries comes from an order of the vertices of a member.
+use Rattle.std.proofs.lemmas.List.Elements.{Contains-get_or}
+use Rattle.std.proofs.lemmas.List.{get_or_default}
 use Rattle.std.proofs.Common.{◌≡◌, ℕ, zero, suc, ℤ, pos, negsuc, ◌-ℤ◌, ◌*ℤ◌, ◌<ℤ◌, ◌<◌, ◌≤◌, ◌⊎◌, refl, ap, arith, sym, ◌∙◌, subst, List, [], ◌∷◌, length, map, get_or, inl, inr}
 use Rattle.std.proofs.lemmas.Int.{ints}
 use Rattle.std.specs.List.{Contains}
-use Rattle.lt_model.specs.Matrices.{apply, IsSquare, Carries, AreEquivalent}
+use Rattle.lt_model.specs.Matrices.{apply, IsSquare, Carries}
 use Rattle.lt_model.specs.Principal.{IsOrder}
 use Rattle.lt_model.specs.Simplices.{IsSimplex, IsClass, IsClassOf, translate}
 use Rattle.lt_model.specs.Vectors.{plus, minus, scale, dot, combine, zeros}
@@ -16,7 +18,7 @@ use Rattle.lt_model.proofs.Vectors.{dot-scale, plus_comm}
 use Rattle.lt_geometry.proofs.Images.{class_distinct, IsCarried, has_carried, carries_to, carries_undone}
 use Rattle.lt_geometry.proofs.Matrices.{length-apply, apply-scale, apply-zeros, dot-apply, same_matrices}
 use Rattle.lt_geometry.proofs.Motions.{moved, plus-zeros, plus_and_minus, length_of_member, IsMapped, mapped, Contains-map}
-use Rattle.lt_geometry.proofs.Rearranged.{contains_at, IsDistinct, get-default, same_place, no_longer}
+use Rattle.lt_geometry.proofs.Rearranged.{IsDistinct, same_place, no_longer}
 pub use Rattle.lt_geometry.specs.Carrying.{AreClasses, IsCandidate, IsFromAnOrder}
 
 -- ---- a matrix is determined by the images of the vertices of a simplex
@@ -66,7 +68,7 @@ one_candidate d s s2 p u w simplex h k = same_on_simplex d s u w simplex h.squar
   where
     at : (x : List ℤ) → Contains s x → apply u x ≡ apply w x
     at x (i, l, e) =
-        let is : get_or s i [] ≡ x = get-default s i [] x l ∙ e in
+        let is : get_or s i [] ≡ x = get_or_default s i [] x l ∙ e in
         let hi : i < suc d = omega (arith, simplex.count, l) in
         ap (apply u) (sym is) ∙ h.images i hi ∙ sym (k.images i hi) ∙ ap (apply w) is
 
@@ -89,7 +91,7 @@ place_at : (f : List ℤ → List ℤ) (vs s2 : List (List ℤ)) (h : (x : List 
 place_at f [] s2 h i l = absurd (omega arith)
 place_at f (v ∷ vs) s2 h zero l =
     let c : Contains s2 (f v) = h v (Contains-head v vs) in
-    record { within = c.1; is = get-default s2 c.0 [] (f v) c.1 ∙ c.2 }
+    record { within = c.1; is = get_or_default s2 c.0 [] (f v) c.1 ∙ c.2 }
 place_at f (v ∷ vs) s2 h (suc i) l = place_at f vs s2 (λ x c. h x (Contains-tail v vs x c)) i (omega arith)
 
 pub carried_order : (d : ℕ) (t2 : List (List (List ℤ))) (u v : List (List ℤ)) (s s2 : List (List ℤ)) → Contains t2 s2 → IsCarried d u v s s2 → IsFromAnOrder d t2 s u
@@ -97,7 +99,7 @@ carried_order d t2 u v s s2 m k = record {
   to = s2;
   member = m;
   order = p;
-  is_order = record { count = lp ∙ k.origin.simplex.count; each = λ j hj. each j hj (k.image.from (get_or s2 j []) (contains_at s2 j [] (omega (arith, k.target.simplex.count, hj)))) };
+  is_order = record { count = lp ∙ k.origin.simplex.count; each = λ j hj. each j hj (k.image.from (get_or s2 j []) (Contains-get_or s2 j [] (omega (arith, k.target.simplex.count, hj)))) };
   candidate = record { square = k.motion.undone.square; images = images };
 }
   where
@@ -117,10 +119,10 @@ carried_order d t2 u v s s2 m k = record {
     each j hj (x, (i, l, e), is) =
         let hi : i < suc d = omega (arith, k.origin.simplex.count, l) in
         let q : IsPlaceOf s2 (moved u k.shift (get_or s i [])) (get_or p i 0) = place i hi in
-        let points : get_or s2 (get_or p i 0) [] ≡ get_or s2 j [] = q.is ∙ ap (moved u k.shift) (get-default s i [] x l ∙ e) ∙ is in
+        let points : get_or s2 (get_or p i 0) [] ≡ get_or s2 j [] = q.is ∙ ap (moved u k.shift) (get_or_default s i [] x l ∙ e) ∙ is in
         let same : get_or p i 0 ≡ j = same_place s2 (get_or p i 0) j [] (class_distinct d s2 k.target) q.within (omega (arith, k.target.simplex.count, hj)) points in
         let li : i < length p = omega (arith, lp, l) in
-        (i, li, get-default p i j 0 li ∙ same)
+        (i, li, get_or_default p i j 0 li ∙ same)
 
     first : get_or s2 (get_or p 0 0) [] ≡ k.shift
     first =
@@ -137,13 +139,6 @@ pub carries_is_candidate : (d : ℕ) (u : List (List ℤ)) (t t2 : List (List (L
 carries_is_candidate d u t t2 s classes h m =
     let k = has_carried d u h.inverse s (carries_undone d u t t2 h) (classes s m) in
     carried_order d t2 u h.inverse s k.list (carries_to d u t t2 s k.list h m k.is) k.is
-
--- where no candidate carries, nothing does
-pub none_carries : (d : ℕ) (t t2 : List (List (List ℤ))) (s : List (List ℤ)) → AreClasses d t → Contains t s →
-    ((s2 : List (List ℤ)) (p : List ℕ) (w : List (List ℤ)) → Contains t2 s2 → IsOrder (suc d) p → IsCandidate d s s2 p w → Carries d w t t2 → ⊥) → AreEquivalent d t t2 → ⊥
-none_carries d t t2 s classes m none (u, h) =
-    let k = carries_is_candidate d u t t2 s classes h m in
-    none k.to k.order u k.member k.is_order k.candidate h
 
 -- ---- a member and a matrix have one order
 
@@ -193,7 +188,7 @@ below p n m lp e each i hi = by (get_or p i 0) refl (lt_or_ge (get_or p i 0) m)
         let others : length (k ∷ down_from n) ≤ length p =
         no_longer p (k ∷ down_from n) (λ c. (let b = down_below n k c in omega (arith, b, h, e)), distinct_down n)
         (λ x c. elim (Contains-cases k (down_from n) x c) [
-          | inl f ↦ subst (λ (z : ℕ). Contains p z) (is ∙ f) (contains_at p i 0 li)
+          | inl f ↦ subst (λ (z : ℕ). Contains p z) (is ∙ f) (Contains-get_or p i 0 li)
           | inr r ↦ each x (down_below n x r)
         ])
         in
@@ -203,7 +198,7 @@ below p n m lp e each i hi = by (get_or p i 0) refl (lt_or_ge (get_or p i 0) m)
 pub candidate_class : (d : ℕ) (s s2 : List (List ℤ)) (p : List ℕ) (u : List (List ℤ)) → IsClass d s → IsClass d s2 → IsOrder (suc d) p → IsCandidate d s s2 p u → IsClassOf d (map (apply u) s) s2
 candidate_class d s s2 p u c c2 o k = record {
   shift = scale (negsuc 0) (get_or s2 (get_or p 0 0) []);
-  dimension = length-scale (negsuc 0) (get_or s2 (get_or p 0 0) []) ∙ length_of_member d s2 (get_or s2 (get_or p 0 0) []) c2.simplex.points (contains_at s2 (get_or p 0 0) [] first_within);
+  dimension = length-scale (negsuc 0) (get_or s2 (get_or p 0 0) []) ∙ length_of_member d s2 (get_or s2 (get_or p 0 0) []) c2.simplex.points (Contains-get_or s2 (get_or p 0 0) [] first_within);
   «class» = c2;
   same = λ y. (λ m. to y (mapped (apply u) s y m), λ m. from y (mapped (λ x. plus x t) s2 y m));
 }
@@ -223,8 +218,8 @@ candidate_class d s s2 p u c c2 o k = record {
         at : Contains s m.from → Contains (translate t s2) y
         at (i, l, e) =
             let hi : i < suc d = omega (arith, c.simplex.count, l) in
-            let is : plus (get_or s2 (get_or p i 0) []) t ≡ y = sym (k.images i hi) ∙ ap (apply u) (get-default s i [] m.from l ∙ e) ∙ m.is in
-            subst (λ (z : List ℤ). Contains (translate t s2) z) is (Contains-map (λ x. plus x t) s2 (get_or s2 (get_or p i 0) []) (contains_at s2 (get_or p i 0) [] (within i hi)))
+            let is : plus (get_or s2 (get_or p i 0) []) t ≡ y = sym (k.images i hi) ∙ ap (apply u) (get_or_default s i [] m.from l ∙ e) ∙ m.is in
+            subst (λ (z : List ℤ). Contains (translate t s2) z) is (Contains-map (λ x. plus x t) s2 (get_or s2 (get_or p i 0) []) (Contains-get_or s2 (get_or p i 0) [] (within i hi)))
 
     from : (y : List ℤ) → IsMapped (λ x. plus x t) s2 y → Contains (map (apply u) s) y
     from y m = at m.member
@@ -235,8 +230,8 @@ candidate_class d s s2 p u c c2 o k = record {
             found : Contains p j → Contains (map (apply u) s) y
             found (i, li, f) =
                 let hi : i < suc d = omega (arith, o.count, li) in
-                let same : get_or p i 0 ≡ j = get-default p i 0 j li ∙ f in
+                let same : get_or p i 0 ≡ j = get_or_default p i 0 j li ∙ f in
                 let is : apply u (get_or s i []) ≡ y =
-                k.images i hi ∙ ap (λ (x : List ℤ). plus x t) (ap (λ n. get_or s2 n []) same ∙ get-default s2 j [] m.from l ∙ e) ∙ m.is
+                k.images i hi ∙ ap (λ (x : List ℤ). plus x t) (ap (λ n. get_or s2 n []) same ∙ get_or_default s2 j [] m.from l ∙ e) ∙ m.is
                 in
-                subst (λ (z : List ℤ). Contains (map (apply u) s) z) is (Contains-map (apply u) s (get_or s i []) (contains_at s i [] (omega (arith, c.simplex.count, hi))))
+                subst (λ (z : List ℤ). Contains (map (apply u) s) z) is (Contains-map (apply u) s (get_or s i []) (Contains-get_or s i [] (omega (arith, c.simplex.count, hi))))

@@ -1,4 +1,6 @@
 -- The image of a Delaunay triangulation is one.
+use Rattle.std.proofs.lemmas.List.Elements.{Contains-get_or}
+use Rattle.std.proofs.lemmas.List.{get_or_default}
 use Rattle.std.proofs.Common.{◌≡◌, ℕ, zero, suc, ℤ, pos, negsuc, ◌+ℤ◌, ◌*ℤ◌, ◌<ℤ◌, ◌≤ℤ◌, ◌<◌, refl, ap, arith, sym, ◌∙◌, subst, List, [], ◌∷◌, length, map, get_or}
 use Rattle.std.proofs.lemmas.Int.{ints}
 use Rattle.std.specs.List.{Contains}
@@ -22,7 +24,7 @@ use Rattle.lt_geometry.proofs.Images.{IsImage, image_rearranged, class_distinct,
 use Rattle.lt_geometry.proofs.Induced.{pulled, value-pulled, length-pulled}
 use Rattle.lt_geometry.proofs.Matrices.{IsUndone, undone_back, length-apply, apply-plus, apply-zeros}
 use Rattle.lt_geometry.proofs.Motions.{moved, IsMotion, motion_back, moved_back, length-moved, moved_all, mapped, IsMapped, length_of_member, expression_moved_by, expression_rearranged, excess_rearranged, excess_moved_by}
-use Rattle.lt_geometry.proofs.Rearranged.{contains_at, IsRearranged, IsDistinct, rearrange, get-default, same_place, placed, HasPlace, Contains-without, Contains-with, not_in_without}
+use Rattle.lt_geometry.proofs.Rearranged.{IsRearranged, IsDistinct, rearrange, same_place, placed, HasPlace, Contains-without, Contains-with, not_in_without}
 use Rattle.lt_geometry.proofs.Sorting.{sorted_is_distinct, sorted_without}
 
 pub get-map : (f : List ℤ → List ℤ) (vs : List (List ℤ)) (i : ℕ) (a b : List ℤ) → i < length vs → get_or (map f vs) i a ≡ f (get_or vs i b)
@@ -98,7 +100,7 @@ pub record HasCarriedPlace (d : ℕ) (u v : List (List ℤ)) (s s2 : List (List 
   pub others : (b : List ℤ) → length b ≡ length s → IsPermutation (without i b) (without place (carried_numbers d u v s s2 h b))
 
 pub carried_place : (d : ℕ) (u v : List (List ℤ)) (s s2 : List (List ℤ)) (i : ℕ) → (h : IsCarried d u v s s2) → i < suc d → HasCarriedPlace d u v s s2 h i
-carried_place d u v s s2 i h hi = at (h.image.to (get_or s i []) (contains_at s i [] li))
+carried_place d u v s s2 i h hi = at (h.image.to (get_or s i []) (Contains-get_or s i [] li))
   where
     li : i < length s
     li = omega (arith, h.origin.simplex.count)
@@ -106,12 +108,12 @@ carried_place d u v s s2 i h hi = at (h.image.to (get_or s i []) (contains_at s 
     at : Contains s2 (moved u h.shift (get_or s i [])) → HasCarriedPlace d u v s s2 h i
     at c =
         let p : HasPlace (map (moved u h.shift) s) s2 (carried_rearranged d u v s s2 h) c.0 = placed (map (moved u h.shift) s) s2 (carried_rearranged d u v s s2 h) c.0 c.1 in
-        let is : get_or s2 c.0 [] ≡ moved u h.shift (get_or s i []) = get-default s2 c.0 [] (moved u h.shift (get_or s i [])) c.1 ∙ c.2 in
+        let is : get_or s2 c.0 [] ≡ moved u h.shift (get_or s i []) = get_or_default s2 c.0 [] (moved u h.shift (get_or s i [])) c.1 ∙ c.2 in
         let lk : p.place < length s = omega (arith, p.within, length-map_vectors (moved u h.shift) s) in
         let images : moved u h.shift (get_or s p.place []) ≡ moved u h.shift (get_or s i []) = sym (get-map (moved u h.shift) s p.place [] [] lk) ∙ p.member ∙ is in
         let points : get_or s p.place [] ≡ get_or s i [] =
-        sym (moved_back d u h.shift v h.back (get_or s p.place []) h.motion (length_of_member d s (get_or s p.place []) h.origin.simplex.points (contains_at s p.place [] lk)))
-        ∙ ap (moved v h.back) images ∙ moved_back d u h.shift v h.back (get_or s i []) h.motion (length_of_member d s (get_or s i []) h.origin.simplex.points (contains_at s i [] li))
+        sym (moved_back d u h.shift v h.back (get_or s p.place []) h.motion (length_of_member d s (get_or s p.place []) h.origin.simplex.points (Contains-get_or s p.place [] lk)))
+        ∙ ap (moved v h.back) images ∙ moved_back d u h.shift v h.back (get_or s i []) h.motion (length_of_member d s (get_or s i []) h.origin.simplex.points (Contains-get_or s i [] li))
         in
         let places : p.place ≡ i = same_place s p.place i [] (class_distinct d s h.origin) lk li points in
         record {
@@ -133,7 +135,7 @@ image_without d u t v r s s2 i i2 m h all ds ds2 hi hi2 is = record {
   where
     injective : (x : List ℤ) → Contains s x → moved u t x ≡ moved u t (get_or s i []) → x ≡ get_or s i []
     injective x c e =
-        sym (moved_back d u t v r x m (length_of_member d s x all c)) ∙ ap (moved v r) e ∙ moved_back d u t v r (get_or s i []) m (length_of_member d s (get_or s i []) all (contains_at s i [] hi))
+        sym (moved_back d u t v r x m (length_of_member d s x all c)) ∙ ap (moved v r) e ∙ moved_back d u t v r (get_or s i []) m (length_of_member d s (get_or s i []) all (Contains-get_or s i [] hi))
 
     from : (y : List ℤ) → Contains (without i2 s2) y → ((x : List ℤ) × Contains s x × (moved u t x ≡ y)) → (x : List ℤ) × Contains (without i s) x × (moved u t x ≡ y)
     from y c (x, k, e) =
@@ -295,7 +297,7 @@ closed_carried d u t t2 classes h closed s2 i2 m hi2 = at (carries_from d u t t2
             let l2 : i2 < length s2 = omega (arith, o.is.target.simplex.count, hi2) in
             let points : get_or s2 r.facet.place [] ≡ get_or s2 i2 [] =
             r.facet.vertex ∙ ap (moved u o.is.shift) i.vertex
-            ∙ moved_back d v o.is.back u o.is.shift (get_or s2 i2 []) (motion_back d u o.is.shift v o.is.back o.is.motion) (length_of_member d s2 (get_or s2 i2 []) o.is.target.simplex.points (contains_at s2 i2 [] l2))
+            ∙ moved_back d v o.is.back u o.is.shift (get_or s2 i2 []) (motion_back d u o.is.shift v o.is.back o.is.motion) (length_of_member d s2 (get_or s2 i2 []) o.is.target.simplex.points (Contains-get_or s2 i2 [] l2))
             in
             let places : r.facet.place ≡ i2 = same_place s2 r.facet.place i2 [] (class_distinct d s2 o.is.target) (omega (arith, o.is.target.simplex.count, r.facet.within)) l2 points in
             (k.list, r.shift, r.outer, subst (λ (e : ℕ). IsNeighbour d t2 s2 e k.list r.shift r.outer) places r.neighbour)
@@ -332,7 +334,7 @@ delaunay_carried d u t t2 q h asc k = record {
     agree = agree_pulled d u v q undo
 
     occupied : 0 < length t2
-    occupied = at (contains_at t 0 [] k.occupied)
+    occupied = at (Contains-get_or t 0 [] k.occupied)
       where
         at : Contains t (get_or t 0 []) → 0 < length t2
         at m =

@@ -1,4 +1,5 @@
 -- Images of classes; carrying is an equivalence.
+use Rattle.std.proofs.lemmas.List.Elements.{Contains-get_or}
 use Rattle.std.proofs.Common.{◌≡◌, ℕ, ℤ, negsuc, ◌<◌, ◌↔◌, refl, ap, arith, sym, ◌∙◌, subst, List, [], ◌∷◌, length, map, get_or}
 use Rattle.std.specs.List.{Contains}
 use Rattle.std.specs.List.Sorted.{IsStrictlySortedBy}
@@ -7,15 +8,16 @@ use Rattle.lt_model.specs.Order.{number_list_cmp}
 use Rattle.lt_model.specs.Simplices.{AllOfDimension, IsSimplex, IsClass, IsClassOf, translate}
 use Rattle.lt_model.specs.Vectors.{plus, scale, zeros}
 use Rattle.lt_model.proofs.Dependent.{length-map_vectors}
-use Rattle.lt_model.proofs.Moved.{translate-back, simplex_moved, Contains-translate}
+use Rattle.lt_model.proofs.Moved.{simplex_moved, Contains-translate}
 use Rattle.lt_model.proofs.Opposite.{length-zeros}
-use Rattle.lt_model.proofs.Sets.{same_members, number_list_cmp_total}
+use Rattle.lt_model.proofs.Sets.{number_list_cmp_total}
 use Rattle.lt_model.proofs.Squares.{length-scale, length-plus}
 use Rattle.lt_model.proofs.Translates.{ascending_translate}
-use Rattle.lt_model.proofs.Vectors.{plus_comm, plus_assoc}
+use Rattle.lt_model.proofs.Vectors.{plus_assoc}
+use Rattle.lt_geometry.proofs.Classes.{one_class}
 use Rattle.lt_geometry.proofs.Matrices.{IsUndone, undone, undone_back, undone_times, undone_identity, inverse_from_undone, length-apply, apply-plus, apply-times, apply-identity}
-use Rattle.lt_geometry.proofs.Motions.{moved, IsMotion, motion_of, motion_back, back_shift, moved_back, length-moved, Contains-map, mapped, IsMapped, all_from_members, length_of_member, plus-zeros, minus_itself, minus_and_plus, plus_and_minus, simplex_moved_by, simplex_rearranged}
-use Rattle.lt_geometry.proofs.Rearranged.{contains_at, IsRearranged, IsDistinct, rearranged_from, same_length}
+use Rattle.lt_geometry.proofs.Motions.{moved, IsMotion, motion_of, motion_back, back_shift, moved_back, Contains-map, mapped, IsMapped, all_from_members, length_of_member, plus-zeros, minus_itself, minus_and_plus, plus_and_minus, simplex_moved_by, simplex_rearranged}
+use Rattle.lt_geometry.proofs.Rearranged.{IsRearranged, IsDistinct, rearranged_from, same_length}
 use Rattle.lt_geometry.proofs.Sorting.{sorted, HasSorted, sorted_is_distinct, number_list_cmp_exact}
 pub use Rattle.lt_geometry.specs.Carrying.{AreClasses}
 
@@ -44,31 +46,7 @@ image_rearranged d u t s s2 h distinct l =
     at : (y : List ℤ) → ((x : List ℤ) × Contains s x × (moved u t x ≡ y)) → Contains (map (moved u t) s) y
     at y (x, c, e) = subst (λ (z : List ℤ). Contains (map (moved u t) s) z) e (Contains-map (moved u t) s x c)
 
-pub image_dimension : (d : ℕ) (u : List (List ℤ)) (t : List ℤ) (s s2 : List (List ℤ)) → length u ≡ d → length t ≡ d → IsImage u t s s2 → AllOfDimension d s2
-image_dimension d u t s s2 lu lt h = all_from_members d s2 (λ y c. at y (h.from y c))
-  where
-    at : (y : List ℤ) → ((x : List ℤ) × Contains s x × (moved u t x ≡ y)) → length y ≡ d
-    at y (x, c, e) = ap length (sym e) ∙ length-moved d u t x lu lt
-
 -- ---- classes
-
--- one class has the points of s, moved
-pub class_unique : (d : ℕ) (points s s2 : List (List ℤ)) → IsClassOf d points s → IsClassOf d points s2 → s ≡ s2
-class_unique d points s s2 h k =
-    let lists : translate h.shift s ≡ translate k.shift s2 =
-    same_members number_list_cmp number_list_cmp_total (translate h.shift s) (translate k.shift s2)
-    (ascending_translate d h.shift s h.dimension h.«class».simplex.points h.«class».ascending)
-    (ascending_translate d k.shift s2 k.dimension k.«class».simplex.points k.«class».ascending)
-    (λ x. (λ c. (k.same x).0 ((h.same x).1 c), λ c. (h.same x).0 ((k.same x).1 c)))
-    in
-    let shifts : h.shift ≡ k.shift =
-    sym (first d s h.shift h.«class» h.dimension) ∙ ap (λ (l : List (List ℤ)). get_or l 0 []) lists ∙ first d s2 k.shift k.«class» k.dimension
-    in
-    sym (translate-back d s h.shift h.«class».simplex.points h.dimension) ∙ (λ i. translate (scale (negsuc 0) (shifts i)) (lists i)) ∙ translate-back d s2 k.shift k.«class».simplex.points k.dimension
-  where
-    first : (d : ℕ) (s : List (List ℤ)) (p : List ℤ) → IsClass d s → length p ≡ d → get_or (translate p s) 0 [] ≡ p
-    first d [] p c lp = absurd (omega (arith, c.simplex.count))
-    first d (v ∷ s) p c lp = ap (λ x. plus x p) c.first ∙ plus_comm (zeros d) p ∙ plus-zeros d p lp
 
 pub record HasClass (d : ℕ) (points : List (List ℤ)) : Type 0 where
   pub list : List (List ℤ)
@@ -92,7 +70,7 @@ has_class d points simplex distinct =
         let r : IsRearranged qs points = rearranged_from qs points lq distinct (λ x c. (same x).1 c) in
         let sq : IsSimplex d qs = simplex_rearranged d points qs r all simplex in
         let p : List ℤ = get_or qs 0 [] in
-        let lp : length p ≡ d = length_of_member d qs p all (contains_at qs 0 [] (omega (arith, sq.count))) in
+        let lp : length p ≡ d = length_of_member d qs p all (Contains-get_or qs 0 [] (omega (arith, sq.count))) in
         let ln : length (scale (negsuc 0) p) ≡ d = length-scale (negsuc 0) p ∙ lp in
         let back : translate p (translate (scale (negsuc 0) p) qs) ≡ qs = translate_forth d qs p all lp in
         record {
@@ -197,7 +175,7 @@ pub carried_class : (d : ℕ) (u v : List (List ℤ)) (s s2 : List (List ℤ)) �
 carried_class d u v s s2 h = class_of_image d u h.shift s s2 h.motion.undone.square.rows h.motion.shift h.target h.image
 
 pub carried_unique : (d : ℕ) (u v : List (List ℤ)) (s s2 s3 : List (List ℤ)) → IsCarried d u v s s2 → IsCarried d u v s s3 → s2 ≡ s3
-carried_unique d u v s s2 s3 h k = class_unique d (map (apply u) s) s2 s3 (carried_class d u v s s2 h) (carried_class d u v s s3 k)
+carried_unique d u v s s2 s3 h k = one_class d (map (apply u) s) s2 s3 (carried_class d u v s s2 h) (carried_class d u v s s3 k)
 
 applied_simplex : (d : ℕ) (u v : List (List ℤ)) (s : List (List ℤ)) → IsUndone d u v → IsSimplex d s → IsSimplex d (map (apply u) s)
 applied_simplex d u v s h c = subst (λ (p : List (List ℤ)). IsSimplex d p) (unmoved s) (simplex_moved_by d u (zeros d) v (back_shift v (zeros d)) s (motion_of d u (zeros d) v h (length-zeros d)) c)
@@ -331,15 +309,3 @@ carries_twice d u v t t2 t3 classes h k =
         let b = carries_from d v t2 t3 s3 (classes_carried d u t t2 classes h) k m in
         let a = carries_from d u t t2 b.list classes h b.member in
         record { list = a.list; member = a.member; is = carried_twice d u h.inverse v k.inverse a.list b.list s3 a.is b.is }
-
--- two passes: each member of t has its image in t2, and each member of t2 its image under v in t
-pub carries_from_tests : (d : ℕ) (u v : List (List ℤ)) (t t2 : List (List (List ℤ))) → IsUndone d u v → AreClasses d t → AreClasses d t2 →
-    ((s : List (List ℤ)) → Contains t s → (s2 : List (List ℤ)) × Contains t2 s2 × IsClassOf d (map (apply u) s) s2) →
-    ((s2 : List (List ℤ)) → Contains t2 s2 → (s : List (List ℤ)) × Contains t s × IsClassOf d (map (apply v) s2) s) → Carries d u t t2
-carries_from_tests d u v t t2 h classes classes2 to from = carries_by d u v t t2 h classes (λ s s2 m c. at s s2 m c (to s m)) (λ s2 m. back s2 m (from s2 m))
-  where
-    at : (s s2 : List (List ℤ)) → Contains t s → IsCarried d u v s s2 → ((s3 : List (List ℤ)) × Contains t2 s3 × IsClassOf d (map (apply u) s) s3) → Contains t2 s2
-    at s s2 m c (s3, k, e) = subst (λ (z : List (List ℤ)). Contains t2 z) (carried_unique d u v s s3 s2 (carried_from d u v s s3 h (classes s m) e) c) k
-
-    back : (s2 : List (List ℤ)) → Contains t2 s2 → ((s : List (List ℤ)) × Contains t s × IsClassOf d (map (apply v) s2) s) → HasOrigin d u v t s2
-    back s2 m (s, k, e) = record { list = s; member = k; is = carried_back d v u s2 s (carried_from d v u s2 s (undone_back d u v h) (classes2 s2 m) e) }

@@ -5,6 +5,7 @@ use Rattle.lt_model.specs.Matrices.{times, apply, identity, IsSquare, IsInverse}
 use Rattle.lt_model.specs.Simplices.{AllOfDimension}
 use Rattle.lt_model.specs.Vectors.{plus, scale, dot, combine, zeros}
 use Rattle.lt_model.proofs.Excess.{plus-dot, scale-dot}
+use Rattle.lt_model.proofs.Flat.{identity_square, times_square}
 use Rattle.lt_model.proofs.Opposite.{length-zeros, zeros-dot}
 use Rattle.lt_model.proofs.Vectors.{dot-plus, dot-scale, dot_comm}
 use Rattle.lt_model.proofs.Walk.{length-combine}
@@ -83,44 +84,9 @@ same_matrices d (r ∷ u) (s ∷ v) au av l h =
     rest : {a b : ℤ} {x y : List ℤ} → (let w : List ℤ = a ∷ x in w) ≡ (b ∷ y) → x ≡ y
     rest e = cc
 
-padded_all : (d : ℕ) (vs : List (List ℤ)) → AllOfDimension d vs → AllOfDimension (suc d) (map (λ v. pos 0 ∷ v) vs)
-padded_all d [] h = tt
-padded_all d (v ∷ vs) h = (ap suc h.0, padded_all d vs h.1)
-
-pub identity_all : (d : ℕ) → AllOfDimension d (identity d)
-identity_all zero = tt
-identity_all (suc d) = (ap suc (length-zeros d), padded_all d (identity d) (identity_all d))
-
-pub length-identity : (d : ℕ) → length (identity d) ≡ d
-length-identity zero = refl
-length-identity (suc d) = ap suc (length-padded (identity d) ∙ length-identity d)
-  where
-    length-padded : (vs : List (List ℤ)) → length (map (λ v. let w : List ℤ = pos 0 ∷ v in w) vs) ≡ length vs
-    length-padded [] = refl
-    length-padded (v ∷ vs) = ap suc (length-padded vs)
-
-pub length-times : (u v : List (List ℤ)) → length (times u v) ≡ length u
-length-times [] v = refl
-length-times (r ∷ u) v = ap suc (length-times u v)
-
 -- a combination of d vectors of length d; also of none of length 0
 pub length-combine_at : (d n : ℕ) (b : List ℤ) (vs : List (List ℤ)) → AllOfDimension d vs → length b ≡ n → length vs ≡ n → 0 < n → length (combine b vs) ≡ d
 length-combine_at d n b vs all lb lv some = length-combine d b vs all (lb ∙ sym lv) (omega arith)
-
-times_all : (d n : ℕ) (u v : List (List ℤ)) → 0 < n → AllOfDimension n u → AllOfDimension d v → length v ≡ n → AllOfDimension d (times u v)
-times_all d n [] v some au av lv = tt
-times_all d n (r ∷ u) v some au av lv = (length-combine_at d n r v av au.0 lv some, times_all d n u v some au.1 av lv)
-
-pub square_times : (d : ℕ) (u v : List (List ℤ)) → IsSquare d u → IsSquare d v → IsSquare d (times u v)
-square_times zero [] v su sv = record { rows = refl; columns = tt }
-square_times zero (r ∷ u) v su sv = absurd (omega (arith, su.rows))
-square_times (suc d) u v su sv = record {
-  rows = length-times u v ∙ su.rows;
-  columns = times_all (suc d) (suc d) u v (omega arith) su.columns sv.columns sv.rows;
-}
-
-pub square_identity : (d : ℕ) → IsSquare d (identity d)
-square_identity d = record { rows = length-identity d; columns = identity_all d }
 
 -- v undoes u, on vectors
 pub record IsUndone (d : ℕ) (u v : List (List ℤ)) : Type 0 where
@@ -139,8 +105,8 @@ undone d u v su h = record {
 
 is_identity : (d : ℕ) (u v : List (List ℤ)) → IsSquare d u → IsSquare d v → ((x : List ℤ) → length x ≡ d → apply u (apply v x) ≡ x) → times u v ≡ identity d
 is_identity d u v su sv h =
-    let st : IsSquare d (times u v) = square_times d u v su sv in
-    same_matrices d (times u v) (identity d) st.columns (identity_all d) (st.rows ∙ sym (length-identity d)) (λ x l. apply-times u v x ∙ h x l ∙ sym (apply-identity d x l))
+    let st : IsSquare d (times u v) = times_square d u v su sv in
+    same_matrices d (times u v) (identity d) st.columns (let i = identity_square d in i.columns) (st.rows ∙ sym (let i = identity_square d in i.rows)) (λ x l. apply-times u v x ∙ h x l ∙ sym (apply-identity d x l))
 
 pub inverse_from_undone : (d : ℕ) (u v : List (List ℤ)) → IsUndone d u v → IsInverse d u v
 inverse_from_undone d u v h = record { square = h.other; right = is_identity d u v h.square h.other h.right; left = is_identity d v u h.other h.square h.left }
@@ -150,8 +116,8 @@ undone_back d u v h = record { square = h.other; other = h.square; right = h.lef
 
 pub undone_times : (d : ℕ) (u u' v v' : List (List ℤ)) → IsUndone d u u' → IsUndone d v v' → IsUndone d (times v u) (times u' v')
 undone_times d u u' v v' h k = record {
-  square = square_times d v u k.square h.square;
-  other = square_times d u' v' h.other k.other;
+  square = times_square d v u k.square h.square;
+  other = times_square d u' v' h.other k.other;
   right = λ x l. go v u u' v' x (h.right (apply v' x) (length-apply v' x ∙ k.other.rows)) (k.right x l);
   left = λ x l. go u' v' v u x (k.left (apply u x) (length-apply u x ∙ h.square.rows)) (h.left x l);
 }
@@ -163,7 +129,7 @@ pub undone_identity : (d : ℕ) → IsUndone d (identity d) (identity d)
 undone_identity d =
     let twice : (x : List ℤ) → length x ≡ d → apply (identity d) (apply (identity d) x) ≡ x =
     λ x l. ap (apply (identity d)) (apply-identity d x l) ∙ apply-identity d x l in
-    record { square = square_identity d; other = square_identity d; right = twice; left = twice }
+    record { square = identity_square d; other = identity_square d; right = twice; left = twice }
 
 pub map-apply_all : (d : ℕ) (u : List (List ℤ)) (vs : List (List ℤ)) → length u ≡ d → AllOfDimension d (map (apply u) vs)
 map-apply_all d u [] lu = tt

@@ -1,4 +1,6 @@
 -- Lists in another order, and the numbers that go with them.
+use Rattle.std.proofs.lemmas.List.Elements.{Contains-get_or}
+use Rattle.std.proofs.lemmas.List.{get_or_default}
 use Rattle.std.proofs.Common.{◌≡◌, ◌≢◌, ℕ, zero, suc, ℤ, pos, ◌+ℤ◌, ◌*ℤ◌, ◌<◌, ◌≤◌, refl, ap, arith, sym, ◌∙◌, subst, List, [], ◌∷◌, length, map, get_or, inl, inr, ◌⊎◌}
 use Rattle.std.proofs.lemmas.Int.{ints}
 use Rattle.std.specs.List.{Contains}
@@ -11,14 +13,6 @@ use Rattle.lt_model.proofs.Sets.{Contains-head, Contains-tail, Contains-cases, C
 use Rattle.lt_model.proofs.Walk.{dot-without, without-map, number_at-map, length-without, length-map}
 
 module _ {X : Type 0} where
-  pub get-default : (xs : List X) (k : ℕ) (a b : X) → k < length xs → get_or xs k a ≡ get_or xs k b
-  get-default [] k a b h = absurd (omega arith)
-  get-default (x ∷ xs) zero a b h = refl
-  get-default (x ∷ xs) (suc k) a b h = get-default xs k a b (omega arith)
-
-  pub contains_at : (xs : List X) (k : ℕ) (a : X) → k < length xs → Contains xs (get_or xs k a)
-  contains_at xs k a h = (k, h, get-default xs k (get_or xs k a) a h)
-
   pub Contains-without : (xs : List X) (k : ℕ) (x a : X) → Contains xs x → get_or xs k a ≢ x → Contains (without k xs) x
   Contains-without [] k x a c n = Contains-none x c
   Contains-without (y ∷ xs) zero x a c n = elim (Contains-cases y xs x c) [ inl e ↦ absurd (n e) | inr r ↦ r ]
@@ -47,7 +41,7 @@ module _ {X : Type 0} where
   not_in_without (x ∷ xs) zero a d h c = d.0 c
   not_in_without (x ∷ xs) (suc k) a d h c =
       elim (Contains-cases x (without k xs) (get_or xs k a) c) [
-        | inl e ↦ d.0 (subst (λ (z : X). Contains xs z) (sym e) (contains_at xs k a (omega arith)))
+        | inl e ↦ d.0 (subst (λ (z : X). Contains xs z) (sym e) (Contains-get_or xs k a (omega arith)))
         | inr r ↦ not_in_without xs k a d.1 (omega arith) r
       ]
 
@@ -59,8 +53,8 @@ module _ {X : Type 0} where
   pub same_place : (xs : List X) (i k : ℕ) (a : X) → IsDistinct xs → i < length xs → k < length xs → get_or xs i a ≡ get_or xs k a → i ≡ k
   same_place [] i k a d hi hk e = absurd (omega arith)
   same_place (x ∷ xs) zero zero a d hi hk e = refl
-  same_place (x ∷ xs) zero (suc k) a d hi hk e = absurd (d.0 (subst (λ (z : X). Contains xs z) (sym e) (contains_at xs k a (omega arith))))
-  same_place (x ∷ xs) (suc i) zero a d hi hk e = absurd (d.0 (subst (λ (z : X). Contains xs z) e (contains_at xs i a (omega arith))))
+  same_place (x ∷ xs) zero (suc k) a d hi hk e = absurd (d.0 (subst (λ (z : X). Contains xs z) (sym e) (Contains-get_or xs k a (omega arith))))
+  same_place (x ∷ xs) (suc i) zero a d hi hk e = absurd (d.0 (subst (λ (z : X). Contains xs z) e (Contains-get_or xs i a (omega arith))))
   same_place (x ∷ xs) (suc i) (suc k) a d hi hk e = ap suc (same_place xs i k a d.1 (omega arith) (omega arith) e)
 
   -- a list without repetition is no longer than one that has its members
@@ -131,7 +125,7 @@ module _ {X : Type 0} (e : X) where
   arranged_from xs [] l d h = l
   arranged_from xs (y ∷ ys) l d h =
       let c : Contains xs y = h y (Contains-head y ys) in
-      let is : get_or xs c.0 e ≡ y = get-default xs c.0 e y c.1 ∙ c.2 in
+      let is : get_or xs c.0 e ≡ y = get_or_default xs c.0 e y c.1 ∙ c.2 in
       let rest : IsArranged (without c.0 xs) ys =
       arranged_from (without c.0 xs) ys (omega (arith, l, length-without c.0 xs c.1)) d.1
       (λ x m. Contains-without xs c.0 x e (h x (Contains-tail y ys x m)) (λ f. d.0 (subst (λ (z : X). Contains ys z) (sym f ∙ is) m)))
@@ -154,7 +148,7 @@ module _ {X : Type 0} (e : X) where
   arranged_members xs [] r x c = absurd (omega (arith, r, c.1))
   arranged_members xs (y ∷ ys) r x c =
       elim (other_place r.0 c.0 xs x c.1 c.2) [
-        | inl f ↦ subst (λ (z : X). Contains (y ∷ ys) z) (sym r.2 ∙ get-default xs r.0 e x r.1 ∙ ap (λ n. get_or xs n x) (sym f) ∙ c.2) (Contains-head y ys)
+        | inl f ↦ subst (λ (z : X). Contains (y ∷ ys) z) (sym r.2 ∙ get_or_default xs r.0 e x r.1 ∙ ap (λ n. get_or xs n x) (sym f) ∙ c.2) (Contains-head y ys)
         | inr d ↦ Contains-tail y ys x (arranged_members (without r.0 xs) ys r.3 x d)
       ]
 

@@ -1,4 +1,5 @@
 -- Regulators, wall forms and facets are carried.
+use Rattle.std.proofs.lemmas.List.Elements.{Contains-get_or}
 use Rattle.std.proofs.Common.{◌≡◌, ◌≢◌, ℕ, ℤ, pos, negsuc, ◌+ℤ◌, ◌*ℤ◌, ◌<ℤ◌, ◌<◌, ap, arith, sym, ◌∙◌, subst, List, [], ◌∷◌, length, map, get_or}
 use Rattle.std.proofs.lemmas.Int.{ints}
 use Rattle.lt_model.specs.Forms.{squares, numbers_of_form, value}
@@ -12,7 +13,6 @@ use Rattle.lt_model.proofs.Moved.{translate_all}
 use Rattle.lt_model.proofs.Squares.{length-scale, length-plus}
 use Rattle.lt_model.proofs.Vectors.{dot-plus, dot-scale, dot_comm}
 use Rattle.lt_model.proofs.Walk.{length-combine}
-use Rattle.lt_geometry.proofs.Rearranged.{contains_at}
 use Rattle.lt_geometry.specs.Carrying.{AreClasses}
 use Rattle.lt_geometry.proofs.Carried.{carried_numbers, carried_expression, carried_excess, Agree, HasCarriedNeighbour, carried_neighbour}
 use Rattle.lt_geometry.proofs.Images.{IsCarried, HasCarried, has_carried, carries_to, carries_undone, carries_back, classes_carried}
@@ -48,7 +48,7 @@ pub length-outer : (d : ℕ) (t : List (List (List ℤ))) (n : List ℤ) (s : Li
 length-outer d t n s w c b classes p =
     let k : IsClass d p.next = classes p.next p.neighbour.member in
     let l : p.outer < length (translate p.shift p.next) = omega (arith, length-translate p.shift p.next, k.simplex.count, p.neighbour.place) in
-    ap length p.vertex ∙ length_of_member d (translate p.shift p.next) (get_or (translate p.shift p.next) p.outer []) (translate_all d p.shift p.next p.neighbour.dimension k.simplex.points) (contains_at (translate p.shift p.next) p.outer [] l)
+    ap length p.vertex ∙ length_of_member d (translate p.shift p.next) (get_or (translate p.shift p.next) p.outer []) (translate_all d p.shift p.next p.neighbour.dimension k.simplex.points) (Contains-get_or (translate p.shift p.next) p.outer [] l)
 
 -- a regulator has n numbers
 pub length-pair : (d : ℕ) (t : List (List (List ℤ))) (n : List ℤ) (s : List (List ℤ)) (w : List ℤ) (c : ℤ) (b : List ℤ) → AreClasses d t → IsPair d t n s w c b → length n ≡ numbers_of_form d

@@ -77,9 +77,6 @@ entries_more d scales terms targets k j numbers x h hj is below = record {
   ];
 }
 
-pub entries_none : (d : ℕ) (scales terms : List ℤ) (targets : List (List ℤ)) → AreEntries d scales terms targets (0 * d) []
-entries_none d scales terms targets = record { count = omega arith; below = All-nil (IsBelow (2 ^ 62)); each = λ k j hj h. absurd (omega (arith, h)) }
-
 -- the number of the matrix at each place
 pub entries_at : (d : ℕ) (scales terms : List ℤ) (targets : List (List ℤ)) (numbers : List ℤ) → AreEntries d scales terms targets (d * d) numbers → (k j : ℕ) → k < d → j < d → IsEntry d scales terms targets k j (number_at j (get_or (rows d numbers) k []))
 entries_at d scales terms targets numbers h k j hk hj =

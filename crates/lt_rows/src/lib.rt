@@ -7,6 +7,8 @@ mod geometry;
 #[cfg(test)]
 mod lattice;
 #[cfg(test)]
+mod matching;
+#[cfg(test)]
 mod numbers;
 #[cfg(test)]
 mod regulators;

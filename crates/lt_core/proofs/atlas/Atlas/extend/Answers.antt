@@ -13,7 +13,7 @@ use Rattle.lt_core.proofs.atlas.Atlas.extend.Goals as goal
 
 pub overflow_sub-self : goal.overflow_sub-self
 overflow_sub-self c =
-    some_open_here (value_of c.self.inside) c.self.inside.undecided (vec_capacity c.self.inside.log) c.args.position c.self.invariant (open_inside c.self.inside c.args.self.now c.args.position c.self.view_is c.requires.here)
+    some_open_here (value_of c.self.inside) c.self.inside.undecided c.self.inside.stuck (vec_capacity c.self.inside.log) c.args.position c.self.invariant (open_inside c.self.inside c.args.self.now c.args.position c.self.view_is c.requires.here)
 
 pub put-requires-clause-entry_within : goal.put-requires-clause-entry_within
 put-requires-clause-entry_within c =
@@ -27,7 +27,7 @@ put-requires-clause-facet_within c =
 
 pub push_within-requires-3 : goal.push_within-requires-3
 push_within-requires-3 c =
-    let some = some_open_here (value_of c.self.inside) c.self.inside.undecided (vec_capacity c.self.inside.log) c.args.position c.self.invariant (open_inside c.self.inside c.args.self.now c.args.position c.self.view_is c.requires.here) in
+    let some = some_open_here (value_of c.self.inside) c.self.inside.undecided c.self.inside.stuck (vec_capacity c.self.inside.log) c.args.position c.self.invariant (open_inside c.self.inside c.args.self.now c.args.position c.self.view_is c.requires.here) in
     omega (arith, c.in-Ok-make_room.ensures.ok, c.in-Some.ensures.1)
 
 pub invariant_of-self-2 : goal.invariant_of-self-2
@@ -39,7 +39,8 @@ invariant_of-self-2 c =
       marks = c.push_within-2.new.all;
       queue = c.append_places.new.queue;
       log = c.push_within-3.new.all;
-      undecided = c.self.inside.undecided - 1 + c.facets-facets.result
+      undecided = c.self.inside.undecided - 1 + c.facets-facets.result;
+      stuck = c.self.inside.stuck
     })
     c.args.self.now c.args.position c.args.triangulation c.args.cone c.index.result.now c.in-Ok.row c.identity-matrix.result c.identity-noted.result c.put.new.marks c.facets-facets.result c.len-number.result
     c.len-number.ensures c.self.view_is c.self.invariant c.requires.here c.requires.candidate c.index.ensures refl c.identity-matrix.ensures c.identity-noted.ensures c.facets-facets.ensures.value
@@ -48,7 +49,7 @@ invariant_of-self-2 c =
     c.push_within-2.ensures.items c.in-Ok.ensures
     (c.append_places.ensures ∙ ap (λ l. l ++ model.places_from c.len-number.result 0 c.facets-facets.result) c.make_room.ensures.queue.0)
     (c.push_within-3.ensures.items ∙ (let e : Event = record { position = c.args.position; mark = Cross c.len-number.result c.identity-noted.result; fresh = true } in ap (λ l. l ++ e ∷ []) c.make_room.ensures.log.0))
-    c.requires.few refl
+    c.requires.few refl refl
     (let room = c.in-Ok-make_room.ensures.ok in let sum = c.in-Some.ensures.1 in let more = c.push_within-3.ensures.capacity in let len = c.make_room.ensures.log.1 in omega arith)
 
 pub returns-clause-ok : goal.returns-clause-ok
@@ -63,7 +64,8 @@ returns-clause-ok c =
       marks = c.push_within-2.new.all;
       queue = c.append_places.new.queue;
       log = c.push_within-3.new.all;
-      undecided = c.self.inside.undecided - 1 + c.facets-facets.result
+      undecided = c.self.inside.undecided - 1 + c.facets-facets.result;
+      stuck = c.self.inside.stuck
     })
     c.args.self.now c.args.position c.args.triangulation c.args.cone c.index.result.now c.in-Ok.row c.identity-matrix.result c.identity-noted.result c.put.new.marks c.facets-facets.result c.len-number.result
     c.len-number.ensures c.self.view_is c.self.invariant c.requires.here c.requires.candidate c.index.ensures refl c.identity-matrix.ensures c.identity-noted.ensures c.facets-facets.ensures.value
@@ -72,5 +74,5 @@ returns-clause-ok c =
     c.push_within-2.ensures.items c.in-Ok.ensures
     (c.append_places.ensures ∙ ap (λ l. l ++ model.places_from c.len-number.result 0 c.facets-facets.result) c.make_room.ensures.queue.0)
     (c.push_within-3.ensures.items ∙ (let e : Event = record { position = c.args.position; mark = Cross c.len-number.result c.identity-noted.result; fresh = true } in ap (λ l. l ++ e ∷ []) c.make_room.ensures.log.0))
-    c.requires.few refl
+    c.requires.few refl refl
     (let room = c.in-Ok-make_room.ensures.ok in let sum = c.in-Some.ensures.1 in let more = c.push_within-3.ensures.capacity in let len = c.make_room.ensures.log.1 in omega arith))

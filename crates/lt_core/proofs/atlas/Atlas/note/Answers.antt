@@ -1,6 +1,8 @@
-use Rattle.std.proofs.Common.{◌≡◌, ◌<◌, ◌≤◌, ◌-◌, sym, ◌∙◌, subst, ap, length, arith, vec_len, vec_capacity}
+use Rattle.std.proofs.Common.{◌≡◌, ◌<◌, ◌≤◌, ◌-◌, ◌+◌, ℕ, sym, ◌∙◌, subst, ap, length, arith, vec_len, vec_capacity}
 use Rattle.std.specs.Prelude.{false}
 use Rattle.lt_model.specs.Atlases as model
+use Rattle.std.proofs.lemmas.List.{length-map}
+use Rattle.lt_model.specs.Atlases.{one_if_stuck}
 use Rattle.lt_core.specs.Marks.{mark_of, event_of}
 use Rattle.lt_core.specs.Meaning.{value_of}
 use Rattle.lt_core.specs.Sound.{IsSound}
@@ -20,12 +22,12 @@ put-requires-clause-facet_within c =
 pub overflow_sub-self : goal.overflow_sub-self
 overflow_sub-self c =
     let l = legal_inside c.self.inside c.args.self.now c.args.position (mark_of c.args.mark) c.self.view_is c.requires.legal in
-    some_open (value_of c.self.inside) c.self.inside.undecided (vec_capacity c.self.inside.log) (value_of c.self.inside).entries c.args.position (mark_of c.args.mark) false c.self.invariant l
+    some_open (value_of c.self.inside) c.self.inside.undecided c.self.inside.stuck (vec_capacity c.self.inside.log) (value_of c.self.inside).entries c.args.position (mark_of c.args.mark) false c.self.invariant l
 
 pub unreachable-requires : goal.unreachable-requires
 unreachable-requires c =
     let l = legal_inside c.self.inside c.args.self.now c.args.position (mark_of c.args.mark) c.self.view_is c.requires.legal in
-    let some : 1 ≤ c.self.inside.undecided = some_open (value_of c.self.inside) c.self.inside.undecided (vec_capacity c.self.inside.log) (value_of c.self.inside).entries c.args.position (mark_of c.args.mark) false c.self.invariant l in
+    let some : 1 ≤ c.self.inside.undecided = some_open (value_of c.self.inside) c.self.inside.undecided c.self.inside.stuck (vec_capacity c.self.inside.log) (value_of c.self.inside).entries c.args.position (mark_of c.args.mark) false c.self.invariant l in
     let room : vec_len c.self.inside.log < vec_capacity c.self.inside.log = has_room c.self.inside c.self.invariant some in
     let full : vec_capacity c.self.inside.log ≤ vec_len c.self.inside.log = c.in-Err.ensures.full in
     absurd (omega arith)
@@ -34,13 +36,25 @@ pub invariant_of-self : goal.invariant_of-self
 invariant_of-self c =
     let l = legal_inside c.self.inside c.args.self.now c.args.position (mark_of c.args.mark) c.self.view_is c.requires.legal in
     let place = read_place c.self.inside c.self.invariant c.args.position c.index.result.now l.position.queued c.index.ensures in
-    let same = value_push c.self.inside c.put.new.marks c.push.new.self (c.self.inside.undecided - 1) c.args.position c.index.result.now (mark_of c.args.mark) (record { position = c.args.position; mark = c.args.noted; fresh = false }) place c.put.ensures.value c.in-Ok.ensures.items (ap (λ m. record { position = c.args.position; mark = m; fresh = false }) c.requires.same) in
-    subst (λ (z : model.Atlas). IsSound z (c.self.inside.undecided - 1) (vec_capacity c.push.new.self)) (sym same)
-    (sound_push (value_of c.self.inside) c.self.inside.undecided (vec_capacity c.self.inside.log) (vec_capacity c.push.new.self) c.args.position (mark_of c.args.mark) c.self.invariant l c.push.ensures.capacity)
+    let same = value_push c.self.inside c.put.new.marks c.push.new.self (c.self.inside.undecided - 1) (c.self.inside.stuck + c.args.stuck) c.args.position c.index.result.now (mark_of c.args.mark) (record { position = c.args.position; mark = c.args.noted; fresh = false }) place c.put.ensures.value c.in-Ok.ensures.items (ap (λ m. record { position = c.args.position; mark = m; fresh = false }) c.requires.same) in
+    subst (λ (z : model.Atlas). IsSound z (c.self.inside.undecided - 1) (c.self.inside.stuck + c.args.stuck) (vec_capacity c.push.new.self)) (sym same)
+    (subst (λ (n : ℕ). IsSound (model.push (value_of c.self.inside) c.args.position (mark_of c.args.mark)) (c.self.inside.undecided - 1) (c.self.inside.stuck + n) (vec_capacity c.push.new.self)) (sym c.requires.counted) (sound_push (value_of c.self.inside) c.self.inside.undecided c.self.inside.stuck (vec_capacity c.self.inside.log) (vec_capacity c.push.new.self) c.args.position (mark_of c.args.mark) c.self.invariant l c.push.ensures.capacity))
 
 pub returns : goal.returns
 returns c =
     let l = legal_inside c.self.inside c.args.self.now c.args.position (mark_of c.args.mark) c.self.view_is c.requires.legal in
     let place = read_place c.self.inside c.self.invariant c.args.position c.index.result.now l.position.queued c.index.ensures in
-    let same = value_push c.self.inside c.put.new.marks c.push.new.self (c.self.inside.undecided - 1) c.args.position c.index.result.now (mark_of c.args.mark) (record { position = c.args.position; mark = c.args.noted; fresh = false }) place c.put.ensures.value c.in-Ok.ensures.items (ap (λ m. record { position = c.args.position; mark = m; fresh = false }) c.requires.same) in
+    let same = value_push c.self.inside c.put.new.marks c.push.new.self (c.self.inside.undecided - 1) (c.self.inside.stuck + c.args.stuck) c.args.position c.index.result.now (mark_of c.args.mark) (record { position = c.args.position; mark = c.args.noted; fresh = false }) place c.put.ensures.value c.in-Ok.ensures.items (ap (λ m. record { position = c.args.position; mark = m; fresh = false }) c.requires.same) in
     same ∙ ap (λ (z : model.Atlas). model.push z c.args.position (mark_of c.args.mark)) c.self.view_is
+
+stuck_once : (m : model.Mark) → one_if_stuck m ≤ 1
+stuck_once model.open_mark = omega arith
+stuck_once (model.cross k u) = omega arith
+stuck_once (model.wide t n) = omega arith
+stuck_once (model.heavy n) = omega arith
+
+pub overflow_add-self : goal.overflow_add-self
+overflow_add-self c =
+    let k = c.self.invariant.few_stuck in
+    let l = length-map c.self.inside.log.items event_of in
+    omega (arith, k, l, c.requires.counted, stuck_once (mark_of c.args.mark), c.self.inside.log.ok.0)

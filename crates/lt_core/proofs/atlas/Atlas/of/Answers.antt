@@ -16,15 +16,16 @@ invariant_of-result c =
       marks = c.args.marks;
       queue = c.in_ok-queue.queue;
       log = c.reserve.new.self;
-      undecided = c.len-undecided.result
+      undecided = c.len-undecided.result;
+      stuck = 0
     } in
     let hq : c.in_ok-queue.queue.items ≡ open_places 0 (marks_of c.args.marks.items) = c.in_ok-queue.ensures ∙ ap (λ l. open_places 0 (marks_of l)) c.deref.ensures.value in
     let hl : c.reserve.new.self.items ≡ [] = c.in_ok-reserve.ensures.items ∙ c.new-log.ensures.items in
     let few : length (map entry_of c.args.entries.items) ≤ 100001 = (let l = length-map c.args.entries.items entry_of in omega arith) in
     let long : c.len-undecided.result ≡ length (open_places 0 (marks_of c.args.marks.items)) = c.len-undecided.ensures ∙ c.in_ok-queue.queue.ok.0 ∙ ap length hq in
     let room : c.len-undecided.result ≤ vec_capacity c.reserve.new.self = omega (arith, c.in_ok-reserve.ensures.ok, c.len.ensures, c.len-undecided.ensures) in
-    subst (λ (z : model.Atlas). IsSound z c.len-undecided.result (vec_capacity c.reserve.new.self)) (sym (value_fresh i hq hl))
-    (sound_fresh c.args.dimension (map entry_of c.args.entries.items) (marks_of c.args.marks.items) c.len-undecided.result (vec_capacity c.reserve.new.self) c.requires.low c.requires.high c.requires.right few long room)
+    subst (λ (z : model.Atlas). IsSound z c.len-undecided.result 0 (vec_capacity c.reserve.new.self)) (sym (value_fresh i hq hl))
+    (sound_fresh c.args.dimension (map entry_of c.args.entries.items) (marks_of c.args.marks.items) c.len-undecided.result (vec_capacity c.reserve.new.self) (c.requires.settled) c.requires.low c.requires.high c.requires.right few long room)
 
 pub returns : goal.returns
 returns c =
@@ -34,7 +35,8 @@ returns c =
       marks = c.args.marks;
       queue = c.in_ok-queue.queue;
       log = c.reserve.new.self;
-      undecided = c.len-undecided.result
+      undecided = c.len-undecided.result;
+      stuck = 0
     })
     (c.in_ok-queue.ensures ∙ ap (λ l. open_places 0 (marks_of l)) c.deref.ensures.value)
     (c.in_ok-reserve.ensures.items ∙ c.new-log.ensures.items)
