@@ -1,1 +1,2 @@
 pub mod Extreme
+pub mod WallSums

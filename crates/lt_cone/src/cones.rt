@@ -1,0 +1,33 @@
+//! The cone of a triangulation.
+
+ghost use Rattle.std.specs.Prelude.{ℕ, ℤ, List, IfOk, IfErr};
+ghost use Rattle.lt_model.specs.Walls.{AreRegulators};
+ghost use Rattle.lt_model.specs.Cones.{IsRightCone};
+ghost use Rattle.lt_model.specs.Limits.{weight};
+ghost use Rattle.lt_triang.specs.Kept.{dimension_of, IsOfSomeForm};
+ghost use Rattle.lt_cone.specs.Errors.{IsHeavyCone};
+
+use crate::error::ConeError;
+use crate::forms::form_of;
+use crate::rows::rows_of;
+use lt_lp::Cone;
+use lt_regulator::regulators;
+use lt_triang::Triangulation;
+use std::alloc::Global;
+
+/// The right cone of the Delaunay triangulation of some form: its regulators in ascending order with a certificate each, and the
+/// primitive form of the sum of the wall forms. Heavy exactly where the weight of the regulators is at least 2^112.
+pub fn cone(alloc: Global, t: &Triangulation) -> Result<Cone, ConeError>
+    requires { IsOfSomeForm t.now }
+    ensures right { IfOk result (λ c. IsRightCone (dimension_of t.now) t.now c) }
+    ensures heavy { IfErr result (λ e. (ns : List (List ℤ)) → AreRegulators (dimension_of t.now) t.now ns → IsHeavyCone (weight (dimension_of t.now) ns) e) }
+{
+    let d = t.dimension();
+    let normals = match regulators(alloc, t) {
+        Ok(normals) => normals,
+        Err(_) => return Err(ConeError::Memory),
+    };
+    let rows = rows_of(alloc, normals.as_slice())?;
+    let form = form_of(rows.as_slice(), d);
+    Ok(Cone { rows, form })
+}

@@ -1,0 +1,43 @@
+//! The rows of a cone.
+
+ghost use Rattle.std.specs.Prelude.{◌≡◌, ◌<◌, ℕ, ℤ, List, [], length, get_or, IfOk, IfErr};
+ghost use Rattle.std.specs.List.{All};
+ghost use Rattle.lt_model.specs.Cones.{Row as RowModel, normals as normals_of, IsRightVerdict};
+ghost use Rattle.lt_model.specs.Limits.{weight, weight_limit};
+ghost use Rattle.lt_tableau.specs.Errors.{AreOfDimension};
+ghost use Rattle.lt_lp.specs.Positive.{IsPositiveAt};
+ghost use Rattle.lt_cone.specs.Errors.{IsHeavyCone};
+
+use crate::error::ConeError;
+use lt_lattice::Normal;
+use lt_lp::{LpError, Row, decide};
+use std::alloc::Global;
+
+/// A row for each of the normals, which some form makes positive.
+pub fn rows_of(alloc: Global, normals: &[Normal]) -> Result<Vec<Row>, ConeError>
+    requires same { All (λ x. length x ≡ length (get_or normals.now 0 [])) normals.now }
+    requires positive { (form : List ℤ) × IsPositiveAt form normals.now }
+    ensures normals { IfOk result (λ rows. normals_of rows.items ≡ normals.now) }
+    ensures right { IfOk result (λ rows. (d : ℕ) → AreOfDimension d normals.now → (k : ℕ) (r : RowModel) → k < length rows.items → IsRightVerdict d normals.now k (get_or rows.items k r).verdict) }
+    ensures light { IfOk result (λ _. (d : ℕ) → AreOfDimension d normals.now → 0 < length normals.now → weight d normals.now < weight_limit) }
+    ensures heavy { IfErr result (λ e. (d : ℕ) → AreOfDimension d normals.now → IsHeavyCone (weight d normals.now) e) }
+{
+    let mut rows: Vec<Row> = Vec::new(alloc);
+    for k in 0..normals.len() {
+        match decide(alloc, normals, k) {
+            Ok(verdict) => {
+                let row = Row {
+                    normal: normals[k].copy(),
+                    verdict,
+                };
+                match rows.push(row) {
+                    Ok(()) => {}
+                    Err(_) => return Err(ConeError::Memory),
+                }
+            }
+            Err(LpError::Heavy { weight }) => return Err(ConeError::Heavy { weight }),
+            Err(LpError::Memory) => return Err(ConeError::Memory),
+        }
+    }
+    Ok(rows)
+}
