@@ -143,9 +143,12 @@ impl Atlas {
         self.undecided as u64
     }
 
-    /// What is right of every atlas.
+    /// Shows what every atlas keeps: it is right, and its log is legal.
     pub fn keeps(&self)
-        ensures { IsKept (IsAcross self.now.dimension) self.now }
+        ensures kept { IsKept (IsAcross self.now.dimension) self.now }
+        ensures low { 2 ≤ self.now.dimension }
+        ensures high { self.now.dimension ≤ 6 }
+        ensures few { length self.now.entries ≤ 2 ^ 30 }
     {
         let _ = &self.dimension;
     }

@@ -129,7 +129,7 @@ push a p m = record {
   entries = a.entries;
   marks = set_mark a.marks (place_at a.queue p) m;
   queue = a.queue;
-  log = a.log ++ record { position = p; mark = m; fresh = false } ∷ []
+  log = a.log ++ record { position = p; mark = m; fresh = false } ∷ [];
 }
 
 -- an event more, which appends the entry e
@@ -139,7 +139,7 @@ grow a p e = record {
   entries = a.entries ++ e ∷ [];
   marks = set_mark a.marks (place_at a.queue p) (cross (length a.entries) (identity a.dimension)) ++ opens (length (facets e)) ∷ [];
   queue = a.queue ++ places_from (length a.entries) 0 (length (facets e));
-  log = a.log ++ record { position = p; mark = cross (length a.entries) (identity a.dimension); fresh = true } ∷ []
+  log = a.log ++ record { position = p; mark = cross (length a.entries) (identity a.dimension); fresh = true } ∷ [];
 }
 
 abbrev pub front : {A : Type 0} → List A → List A
@@ -152,7 +152,7 @@ without_event e a = record {
   entries = cond e.fresh (front a.entries) a.entries;
   marks = set_mark (cond e.fresh (front a.marks) a.marks) (place_at a.queue e.position) open_mark;
   queue = cond e.fresh (take (length a.queue - length (get_or a.marks (length a.marks - 1) [])) a.queue) a.queue;
-  log = front a.log
+  log = front a.log;
 }
 
 abbrev pub undo : Atlas → Atlas

@@ -1,0 +1,6 @@
+//! Settling the facets of an atlas.
+#![tactic(auto)]
+
+mod settling;
+
+pub use settling::settle;
