@@ -1,6 +1,6 @@
 -- The verdicts of the program as those of the definitions.
-use Rattle.std.specs.Prelude.{ℕ, pos, ◌≡◌, ◌≤◌, List, [], ◌∷◌}
-use Rattle.lt_model.specs.Cones.{Verdict as Certificate, wall, combination, Row}
+use Rattle.std.specs.Prelude.{ℕ, pos, ◌≡◌, ◌≤◌}
+use Rattle.lt_model.specs.Cones.{Verdict as Certificate, wall, combination}
 use Rattle.lt_model.specs.Limits.{weight_limit}
 use Rattle.lt_lp.specs.declared.verdicts.LpError.{LpError}
 use Rattle.lt_lp.specs.declared.verdicts.LpError.TheVariants.{Heavy, Memory}

@@ -16,3 +16,5 @@ mod regulators;
 mod systems;
 #[cfg(test)]
 mod tableau;
+#[cfg(test)]
+mod verdicts;

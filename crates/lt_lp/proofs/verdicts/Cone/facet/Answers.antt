@@ -1,6 +1,5 @@
 use Rattle.std.proofs.Common.{◌≡◌, ◌<◌, arith, ap, sym, ◌∙◌, subst, length, get_or, ℕ}
 use Rattle.lt_model.specs.Cones as model
-use Rattle.lt_lp.specs.Facets.{has_wall}
 use Rattle.lt_lp.proofs.FacetRows.{IsFacetRow, walls, walls_more, one_if, facet_row}
 use Rattle.lt_lp.proofs.verdicts.Cone.facet.Goals as goal
 use Rattle.lt_lp.proofs.verdicts.Cone.facet.Goals.{then-is_facet+else-left-eq0, else-is_facet}

@@ -1,6 +1,5 @@
-use Rattle.std.proofs.Common.{◌≡◌, ◌<◌, arith, ap, sym, ◌∙◌, subst, length, get_or}
+use Rattle.std.proofs.Common.{◌≡◌, ◌<◌, arith, ap, sym, ◌∙◌, length, get_or}
 use Rattle.lt_model.specs.Cones as model
-use Rattle.lt_lp.specs.Facets.{has_wall}
 use Rattle.lt_lp.proofs.FacetRows.{walls_more, one_if}
 use Rattle.lt_lp.proofs.verdicts.Cone.facets.Goals as goal
 use Rattle.lt_lp.proofs.verdicts.Cone.facets.Goals.{then-is_facet, else-is_facet}
