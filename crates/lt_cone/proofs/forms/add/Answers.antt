@@ -16,7 +16,7 @@ overflow_add-sums c =
     let fy : FitsSigned w128 y = search rules in
     let a : nat_abs x ≤ c.args.count * 2 ^ 62 = rw (← lookup_is c.loop-i.sums i, c.loop-i.invariant.rest i (omega arith)) (c.requires.small i) in
     let b : nat_abs y < 2 ^ 62 = rw (← lookup_is c.args.numbers.now i) (small_at c.args.numbers.now c.requires.below i) in
-    simp (to_z-of_z fx, to_z-of_z fy) (sum_size x y c.args.count c.requires.few a b).fits
+    simp to_z-of_z (sum_size x y c.args.count c.requires.few a b).fits
 
 pub loop-i-preserved : goal.loop-i-preserved
 loop-i-preserved c =
@@ -31,7 +31,7 @@ loop-i-preserved c =
     let a : nat_abs x ≤ c.args.count * 2 ^ 62 = rw (← e, r) (c.requires.small i) in
     let b : nat_abs y < 2 ^ 62 = rw (← n) (small_at c.args.numbers.now c.requires.below i) in
     let fits = (sum_size x y c.args.count c.requires.few a b).fits in
-    simp (to_z-of_z fx, to_z-of_z fy, to_z-of_z fits) (add_step c.args.sums.now c.loop-i.sums c.args.numbers.now i (x +ℤ y) (omega arith) c.loop-i.invariant.size c.loop-i.invariant.done c.loop-i.invariant.rest (rw (← r, e, n) refl))
+    simp to_z-of_z (add_step c.args.sums.now c.loop-i.sums c.args.numbers.now i (x +ℤ y) (omega arith) c.loop-i.invariant.size c.loop-i.invariant.done c.loop-i.invariant.rest (rw (← r, e, n) refl))
 
 pub returns-clause-sums : goal.returns-clause-sums
 returns-clause-sums c q = pick (dec_le c.loop-i.i q)
