@@ -11,6 +11,9 @@ use Rattle.lt_model.specs.Cones.{Row, Verdict, wall, combination, AreBelow, sum_
 use Rattle.lt_model.proofs.Walk.{plus-nil}
 use Rattle.lt_model.proofs.Squares.{length-plus}
 use Rattle.lt_tableau.proofs.Sums.{lookup_none, lookup_is, lookup_plus}
+use Rattle.std.specs.Int.{◌∣◌}
+use Rattle.std.proofs.lemmas.Nat.Gcd.{le_of_dvd}
+use Rattle.lt_num.specs.Divisors.{DividesEach, IsGcdOf}
 use Rattle.lt_cone.specs.Rows.{IsWallOf}
 
 zeros_last : (n : ℕ) → zeros (suc n) ≡ zeros n ++ pos 0 ∷ []
@@ -82,3 +85,35 @@ long_sum n (r ∷ rows) h = with_row r.verdict refl (long_sum n rows (λ k s w l
     with_row (combination f ts) e s = rw e s
     with_row (wall w) e (inl s) = let l = h 0 r w (omega arith) e in inl (rw e (length-plus w (sum_of_walls rows) (l ∙ sym s) ∙ l))
     with_row (wall w) e (inr s) = let l = h 0 r w (omega arith) e in inl (rw (e, s, plus-nil w) l)
+
+-- ---- the greatest common divisor of numbers below 2^92
+divides_at : (g : ℕ) (xs : List ℤ) (q : ℕ) → lookup xs q ≢ pos 0 → DividesEach g xs → g ∣ nat_abs (lookup xs q)
+divides_at g [] q h d = absurd (h (lookup_none q))
+divides_at g (x ∷ xs) zero h d = d.0
+divides_at g (x ∷ xs) (suc q) h d = divides_at g xs q h d.1
+
+pub below_at : (n : ℕ) → 0 < n → (ys : List ℤ) → AreBelow n ys → (q : ℕ) → nat_abs (lookup ys q) < n
+below_at n p ys h q = pick (dec_le (length ys) q)
+  where
+    pick : Dec (length ys ≤ q) → nat_abs (lookup ys q) < n
+    pick (yes l) = rw (past ys q l) (omega arith)
+    pick (no l) = rw (lookup_is ys q) (h q (pos 0) (omega arith))
+
+pub not_large : (xs : List ℤ) (q : ℕ) → lookup xs q ≢ pos 0 → AreBelow (2 ^ 92) xs → IsGcdOf xs (2 ^ 127) → ⊥
+not_large xs q h l g =
+    let s = below_at (2 ^ 92) (omega arith) xs l q in
+    let some : 0 < nat_abs (lookup xs q) = omega (arith, ints, h) in
+    let d : 2 ^ 127 ≤ nat_abs (lookup xs q) = le_of_dvd some (divides_at (2 ^ 127) xs q h g.divides) in
+    absurd (omega arith)
+
+-- numbers one by one
+pub below_from : (n : ℕ) (xs : List ℤ) → ((q : ℕ) → nat_abs (lookup xs q) < n) → AreBelow n xs
+below_from n [] h k x l = absurd (omega arith)
+below_from n (y ∷ xs) h zero x l = h 0
+below_from n (y ∷ xs) h (suc k) x l = below_from n xs (λ q. h (suc q)) k x (omega arith)
+
+pub no_more : (rows : List Row) (k q : ℕ) → length rows ≤ k → lookup (sum_of_walls (drop k rows)) q ≡ pos 0
+no_more [] zero q h = lookup_none q
+no_more [] (suc k) q h = lookup_none q
+no_more (r ∷ rows) zero q h = absurd (omega arith)
+no_more (r ∷ rows) (suc k) q h = no_more rows k q (omega arith)
