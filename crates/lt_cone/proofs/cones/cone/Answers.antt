@@ -6,6 +6,7 @@ use Rattle.lt_model.specs.Walls.{AreRegulators}
 use Rattle.lt_triang.specs.Kept.{dimension_of}
 use Rattle.lt_cone.specs.Errors.{IsHeavyCone}
 use Rattle.lt_cone.proofs.RightCones.{distinct, some_regulator, same_lengths, IsConeReady, cone_ready, one_list}
+use Rattle.std.proofs.lemmas.Result.{err_from_is_err_and}
 use Rattle.lt_cone.proofs.cones.cone.Goals as goal
 
 pub rows_of-requires-clause-same : goal.rows_of-requires-clause-same
@@ -23,7 +24,16 @@ rows_of-requires-clause-positive c =
     (c.requires.0, rw (c.as_slice.ensures.value) dis.positive)
 
 pub returns-in_err-rows-clause-heavy : goal.returns-in_err-rows-clause-heavy
-returns-in_err-rows-clause-heavy c = ?
+returns-in_err-rows-clause-heavy c =
+    let d = dimension_of c.args.t.now in
+    let ns = c.in-Ok.normals.items in
+    let dis = distinct d c.requires.0 c.args.t.now ns c.requires.1 c.in-Ok.ensures in
+    let some = some_regulator d c.requires.0 c.args.t.now ns c.requires.1 c.in-Ok.ensures in
+    let long = same_lengths (numbers_of_form d) ns dis.lengths some in
+    let p = err_from_is_err_and c.from_residual.result c.from_residual.ensures.1 in
+    let heavy : IsHeavyCone (weight d ns) c.in_err-rows.field-0.0 = rw (c.as_slice.ensures.value) at (c.in_err-rows.ensures.heavy d (rw (c.as_slice.ensures.value) long)) in
+    let same : p.0 ≡ c.in_err-rows.field-0.0 = p.2 in
+    rw (p.1, same) (λ ms r. subst (λ (xs : List (List ℤ)). IsHeavyCone (weight d xs) c.in_err-rows.field-0.0) (one_list d c.args.t.now ns ms c.in-Ok.ensures r) heavy)
 
 ready : (c : goal.After-as_slice-2) → IsConeReady (dimension_of c.args.t.now) c.dimension-d.result c.in-Ok.normals.items c.in_ok-rows.rows.items
 ready c =
