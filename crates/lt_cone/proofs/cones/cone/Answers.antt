@@ -1,8 +1,7 @@
-use Rattle.std.proofs.Common.{arith, ◌≡◌, refl, ◌∙◌, sym, ap, subst, ◌<◌, ◌≤◌, ℕ, ℤ, List, [], pos, length, get_or, IfErr}
+use Rattle.std.proofs.Common.{◌≡◌, ◌∙◌, sym, subst, ◌<◌, ℕ, ℤ, List, length, get_or}
 use Rattle.lt_model.specs.Forms.{numbers_of_form}
 use Rattle.lt_model.specs.Cones.{Row, normals, IsRightVerdict}
 use Rattle.lt_model.specs.Limits.{weight, weight_limit}
-use Rattle.lt_model.specs.Walls.{AreRegulators}
 use Rattle.lt_triang.specs.Kept.{dimension_of}
 use Rattle.lt_cone.specs.Errors.{IsHeavyCone}
 use Rattle.lt_cone.proofs.RightCones.{distinct, some_regulator, same_lengths, IsConeReady, cone_ready, one_list}
@@ -68,11 +67,11 @@ returns-clause-right c =
     let back : c.as_slice.result.now ≡ ns = c.as_slice.ensures.value in
     let right = subst (λ (ms : List (List ℤ)). (k : ℕ) (r : Row) → k < length c.in_ok-rows.rows.items → IsRightVerdict d ms k (get_or c.in_ok-rows.rows.items k r).verdict) (sym c.in_ok-rows.ensures.normals) (c.in_ok-rows.ensures.right d (rw back long)) in
     record {
-        regulators = rw names c.in-Ok.ensures;
-        verdicts = right;
-        light = subst (λ (ms : List (List ℤ)). weight d ms < weight_limit) (sym c.in_ok-rows.ensures.normals) (c.in_ok-rows.ensures.light d (rw back long) (rw back some));
-        primitive = c.form_of-form.ensures.primitive;
-        factor = c.form_of-form.ensures.factor;
-        some = c.form_of-form.ensures.some;
-        sum = rw (← c.as_slice-2.ensures.value) c.form_of-form.ensures.times;
+      regulators = rw names c.in-Ok.ensures;
+      verdicts = right;
+      light = subst (λ (ms : List (List ℤ)). weight d ms < weight_limit) (sym c.in_ok-rows.ensures.normals) (c.in_ok-rows.ensures.light d (rw back long) (rw back some));
+      primitive = c.form_of-form.ensures.primitive;
+      factor = c.form_of-form.ensures.factor;
+      some = c.form_of-form.ensures.some;
+      sum = rw (← c.as_slice-2.ensures.value) c.form_of-form.ensures.times;
     }
