@@ -1,5 +1,5 @@
 -- Rows of regulators with right verdicts: one is a wall, and the sum of the walls is not 0.
-use Rattle.std.proofs.Common.{◌≡◌, ◌≢◌, ◌⊎◌, inl, inr, refl, sym, ◌∙◌, ap, subst, arith, ℕ, zero, suc, ◌+◌, ◌^◌, ◌<◌, ◌≤◌, ℤ, pos, negsuc, ◌+ℤ◌, ◌*ℤ◌, ◌≤ℤ◌, ◌<ℤ◌, List, [], ◌∷◌, length, map, get_or}
+use Rattle.std.proofs.Common.{◌≡◌, ◌≢◌, ◌⊎◌, inl, inr, refl, sym, ◌∙◌, ap, subst, arith, ℕ, zero, suc, ◌^◌, ◌<◌, ◌≤◌, ℤ, pos, negsuc, ◌+ℤ◌, ◌*ℤ◌, ◌≤ℤ◌, ◌<ℤ◌, List, [], ◌∷◌, length, map, get_or}
 use Rattle.std.specs.List.{All, Contains}
 use Rattle.std.proofs.lemmas.Int.{ints}
 use Rattle.std.proofs.lemmas.List.Elements.{Contains-get_or}
@@ -45,6 +45,7 @@ distinct d q t ns k r = record {
   where
     ap_ns : AreApart ns
     ap_ns = apart_from_sorted number_list_cmp number_list_cmp_total ns r.ascending
+
     pick : (i j : ℕ) → i < length ns → j < length ns → i ≢ j → get_or ns i [] ≡ get_or ns j [] → Dec (i ≤ j) → ⊥
     pick i j li lj ne e (yes h) = apart_at ns ap_ns i j (omega (arith, ne)) lj e
     pick i j li lj ne e (no h) = apart_at ns ap_ns j i (omega arith) li (sym e)
@@ -66,6 +67,7 @@ sum_not_negative n (r ∷ rows) h = with_row r.verdict refl (sum_not_negative n 
   where
     both : (x y : ℤ) → pos 0 ≤ℤ x → pos 0 ≤ℤ y → pos 0 ≤ℤ (x +ℤ y)
     both x y a b = omega (arith, ints)
+
     with_row : (v : Verdict) → r.verdict ≡ v → pos 0 ≤ℤ dot n (sum_of_walls rows) → pos 0 ≤ℤ dot n (plus (wall_or_none r.verdict) (sum_of_walls rows))
     with_row (combination f ts) e s = rw e s
     with_row (wall w) e s = rw (e, dot-plus n w (sum_of_walls rows)) (both (dot n w) (dot n (sum_of_walls rows)) (h 0 r w (omega arith) e) s)
@@ -81,6 +83,7 @@ sum_positive n (r ∷ rows) (suc k) r0 w0 l v p h = with_row r.verdict refl (sum
   where
     more : (x y : ℤ) → pos 0 ≤ℤ x → pos 0 <ℤ y → pos 0 <ℤ (x +ℤ y)
     more x y a b = omega (arith, ints)
+
     with_row : (u : Verdict) → r.verdict ≡ u → pos 0 <ℤ dot n (sum_of_walls rows) → pos 0 <ℤ dot n (plus (wall_or_none r.verdict) (sum_of_walls rows))
     with_row (combination f ts) e s = rw e s
     with_row (wall w) e s = rw (e, dot-plus n w (sum_of_walls rows)) (more (dot n w) (dot n (sum_of_walls rows)) (h 0 r w (omega arith) e) s)
@@ -154,6 +157,7 @@ some_sum d q ns rows r dis one some same right = pick (some_or_none (sum_of_wall
       where
         weak : (x : ℤ) → pos 0 <ℤ x → pos 0 ≤ℤ x
         weak x h = omega (arith, ints)
+
         by : Dec (i ≡ j) → pos 0 ≤ℤ dot (get_or ns i []) w
         by (yes z) = let h = (right_wall j s w l e).zero_there in rw (z, h) (omega (arith, ints))
         by (no z) = weak (dot (get_or ns i []) w) ((right_wall j s w l e).others i li z)
@@ -222,14 +226,19 @@ cone_ready d e q t ns rows k h g names right = record {
   where
     same : e ≡ d
     same = dimension_is d e q t k h
+
     low : 2 ≤ d
     low = subst (λ (m : ℕ). 2 ≤ m) same h.low
+
     high : d ≤ 6
     high = subst (λ (m : ℕ). m ≤ 6) same h.high
+
     long : length rows ≡ length ns
     long = sym (length-map rows (λ (r : Row). r.normal)) ∙ ap (length {A = List ℤ}) names
+
     some : (p : ℕ) × (lookup (sum_of_walls rows) p ≢ pos 0)
     some = some_sum d q ns rows no_row (distinct d q t ns k g) (some_numbers d low) (some_regulator d q t ns k g) long right
+
     pick : (length (sum_of_walls rows) ≡ numbers_of_form d) ⊎ (sum_of_walls rows ≡ []) → length (sum_of_walls rows) ≡ numbers_of_form d
     pick (inl s) = s
     pick (inr z) = absurd (some.1 (ap (λ (ys : List ℤ). lookup ys some.0) z ∙ lookup_none some.0))

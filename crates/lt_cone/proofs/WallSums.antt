@@ -1,12 +1,11 @@
 -- Sums of walls: number by number, how large, and not 0.
-use Rattle.std.proofs.Common.{◌≡◌, ◌≢◌, ◌⊎◌, inl, inr, refl, sym, ◌∙◌, ap, subst, ℕ, zero, suc, ◌+◌, ◌*◌, ◌^◌, ◌≤◌, ◌<◌, ℤ, pos, negsuc, ◌+ℤ◌, ◌*ℤ◌, ◌≤ℤ◌, ◌<ℤ◌, arith, List, [], ◌∷◌, ◌++◌, length, map, get_or, drop, drop-cons, add-one, set, length-set, get_or-set_same, get_or-set_other, nat_abs, FitsSigned}
+use Rattle.std.proofs.Common.{◌≡◌, ◌≢◌, ◌⊎◌, inl, inr, refl, sym, ◌∙◌, ap, ℕ, zero, suc, ◌+◌, ◌*◌, ◌^◌, ◌≤◌, ◌<◌, ℤ, pos, ◌+ℤ◌, arith, List, [], ◌∷◌, ◌++◌, length, get_or, drop, drop-cons, add-one, set, length-set, get_or-set_same, get_or-set_other, nat_abs, FitsSigned}
 use Rattle.std.specs.List.{All}
 use Rattle.std.specs.Int.{w128}
 use Rattle.std.proofs.lemmas.Int.{ints, fits_signed_from_abs}
 use native.Mathlib.Decide.{ℕ_discrete, dec_le}
 use Rattle.lt_model.specs.Padded.{lookup}
-use Rattle.lt_model.specs.Vectors.{plus, scale, dot, zeros, IsPrimitive}
-use Rattle.lt_model.specs.Forms.{numbers_of_form}
+use Rattle.lt_model.specs.Vectors.{plus, zeros}
 use Rattle.lt_model.specs.Cones.{Row, Verdict, wall, combination, AreBelow, sum_of_walls, wall_or_none}
 use Rattle.lt_model.proofs.Walk.{plus-nil}
 use Rattle.lt_model.proofs.Squares.{length-plus}
@@ -14,7 +13,6 @@ use Rattle.lt_tableau.proofs.Sums.{lookup_none, lookup_is, lookup_plus}
 use Rattle.std.specs.Int.{◌∣◌}
 use Rattle.std.proofs.lemmas.Nat.Gcd.{le_of_dvd}
 use Rattle.lt_num.specs.Divisors.{DividesEach, IsGcdOf}
-use Rattle.lt_cone.specs.Rows.{IsWallOf}
 
 zeros_last : (n : ℕ) → zeros (suc n) ≡ zeros n ++ pos 0 ∷ []
 zeros_last zero = refl
@@ -39,8 +37,10 @@ add_step old xs ys i v h s d r e = record {
   where
     own : lookup (set xs i v) i ≡ v
     own = lookup_is (set xs i v) i ∙ get_or-set_same xs i v (pos 0) h
+
     other : (q : ℕ) → (q ≡ i → ⊥) → lookup (set xs i v) q ≡ lookup xs q
     other q n = lookup_is (set xs i v) q ∙ get_or-set_other xs i q v (pos 0) n ∙ sym (lookup_is xs q)
+
     pick : (q : ℕ) → q < i + 1 → Dec (q ≡ i) → lookup (set xs i v) q ≡ lookup old q +ℤ lookup ys q
     pick q l (yes z) = rw z (own ∙ e)
     pick q l (no z) = other q z ∙ d q (omega arith)

@@ -1,6 +1,6 @@
-use Rattle.std.proofs.Common.{rules, arith, ◌≡◌, refl, ◌∙◌, sym, ap, subst, ◌+◌, ◌*◌, ◌^◌, ◌≤◌, ◌<◌, ◌+ℤ◌, ℕ, ℤ, pos, length, nat_abs, slice_index_or, FitsSigned, set}
+use Rattle.std.proofs.Common.{rules, arith, ◌≡◌, refl, ◌*◌, ◌^◌, ◌≤◌, ◌<◌, ◌+ℤ◌, pos, nat_abs, slice_index_or, FitsSigned}
 use Rattle.std.specs.Int.{w128}
-use Rattle.std.proofs.lemmas.Int.{ints, to_z-of_z}
+use Rattle.std.proofs.lemmas.Int.{to_z-of_z}
 use native.Mathlib.Decide.{dec_le}
 use Rattle.lt_model.specs.Padded.{lookup}
 use Rattle.lt_tableau.proofs.Sums.{lookup_is}

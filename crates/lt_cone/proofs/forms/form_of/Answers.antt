@@ -1,5 +1,4 @@
-use Rattle.std.proofs.Common.{arith, ◌≡◌, ◌∙◌, sym, ap, subst, ◌^◌, ℕ, ℤ, List, pos, length, drop}
-use Rattle.lt_model.specs.Vectors.{scale}
+use Rattle.std.proofs.Common.{◌≡◌, ◌∙◌, sym, ap, subst, ◌^◌, ℤ, List, pos, length, drop}
 use Rattle.lt_model.proofs.Squares.{length-scale}
 use Rattle.lt_model.specs.Cones.{AreBelow, sum_of_walls}
 use Rattle.lt_lp.specs.Reduced.{IsReduced}

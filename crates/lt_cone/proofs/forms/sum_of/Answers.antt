@@ -1,7 +1,6 @@
-use Rattle.std.proofs.Common.{rules, arith, ◌≡◌, refl, ◌∙◌, sym, ap, ◌+◌, ◌*◌, ◌^◌, ◌≤◌, ◌<◌, ◌+ℤ◌, ℕ, ℤ, pos, List, length, nat_abs, drop, get_or}
+use Rattle.std.proofs.Common.{arith, ◌≡◌, refl, ◌∙◌, sym, ap, ◌+◌, ◌*◌, ◌^◌, ◌≤◌, ◌<◌, ◌+ℤ◌, ℕ, ℤ, pos, List, length, nat_abs, drop, get_or}
 use Rattle.std.proofs.lemmas.Int.{ints}
 use Rattle.lt_model.specs.Padded.{lookup}
-use Rattle.lt_model.specs.Vectors.{zeros}
 use Rattle.lt_model.proofs.Opposite.{length-zeros}
 use Rattle.lt_model.specs.Cones.{Row, wall, combination, sum_of_walls}
 use Rattle.lt_lp.specs.Verdicts.{verdict_of}
@@ -13,13 +12,14 @@ use Rattle.lt_cone.proofs.forms.sum_of.Goals as goal
 
 pub loop-k-init : goal.loop-k-init
 loop-k-init c = record {
-    size = ap (length {A = ℤ}) c.zeros_of-sums.ensures ∙ length-zeros c.args.count;
-    sums = λ q. rw (zero_at q) (plus_zero (lookup (sum_of_walls c.args.rows.now) q));
-    small = λ q. rw (zero_at q) (omega arith);
+  size = ap (length {A = ℤ}) c.zeros_of-sums.ensures ∙ length-zeros c.args.count;
+  sums = λ q. rw (zero_at q) (plus_zero (lookup (sum_of_walls c.args.rows.now) q));
+  small = λ q. rw (zero_at q) (omega arith);
 }
   where
     zero_at : (q : ℕ) → lookup c.zeros_of-sums.result.items q ≡ pos 0
     zero_at q = rw (c.zeros_of-sums.ensures) (lookup_zeros c.args.count q)
+
     plus_zero : (x : ℤ) → pos 0 +ℤ x ≡ x
     plus_zero x = omega (arith, ints)
 
