@@ -10,3 +10,4 @@ pub mod Crossings
 pub mod Reaching
 pub mod Writes
 pub mod Sounds
+pub mod Running

@@ -8,8 +8,7 @@ use Rattle.lt_model.specs.Flat.{rows}
 use Rattle.lt_model.specs.Matrices.{AreEquivalent}
 use Rattle.lt_geometry.specs.Carrying.{IsFromAnOrder}
 use Rattle.lt_geometry.proofs.Candidates.{carries_is_candidate}
-use Rattle.lt_triang.specs.Kept.{IsTriangulation}
-use Rattle.lt_match.specs.Images.{dimension_of}
+use Rattle.lt_triang.specs.Kept.{IsTriangulation, dimension_of}
 use Rattle.lt_match.specs.Matches.{HasNoMatch, IsMatch, IsFirstOrder, IsFirstMatch, ArePlaces}
 use Rattle.lt_match.proofs.Tested.{dimension_is, first_member}
 

@@ -9,8 +9,8 @@ use Rattle.lt_model.specs.Simplices.{IsClass}
 use Rattle.lt_geometry.proofs.Matrices.{undone}
 use Rattle.lt_geometry.proofs.Images.{HasCarried, has_carried, carried_class, carries_undone}
 use Rattle.lt_geometry.proofs.Counted.{as_many, carries_from_counts}
-use Rattle.lt_triang.specs.Kept.{IsTriangulation}
-use Rattle.lt_match.specs.Images.{dimension_of, GoesInto}
+use Rattle.lt_triang.specs.Kept.{IsTriangulation, dimension_of}
+use Rattle.lt_match.specs.Images.{GoesInto}
 
 pub first_member : (d : ℕ) (t : List (List (List ℤ))) → IsTriangulation d t → Contains t (get_or t 0 [])
 first_member d t h = Contains-get_or t 0 [] h.occupied

@@ -1,12 +1,8 @@
 -- Images of classes among the members of a triangulation, and matrices that take points to points.
-use Rattle.std.specs.Prelude.{ℕ, suc, ℤ, ◌<◌, ◌-◌, ◌≡◌, List, [], map, length, get_or}
+use Rattle.std.specs.Prelude.{ℕ, suc, ℤ, ◌<◌, ◌≡◌, List, [], map, get_or}
 use Rattle.std.specs.List.{Contains}
 use Rattle.lt_model.specs.Matrices.{apply}
 use Rattle.lt_model.specs.Simplices.{IsClassOf}
-
--- the number of coordinates of the points of a triangulation
-abbrev pub dimension_of : List (List (List ℤ)) → ℕ
-dimension_of t = length (get_or t 0 []) - 1
 
 -- the class of the points is a member
 abbrev pub HasClassOf : ℕ → List (List ℤ) → List (List (List ℤ)) → Type 0

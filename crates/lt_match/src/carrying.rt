@@ -7,8 +7,8 @@ ghost use Rattle.lt_model.specs.Limits.{span_limit};
 ghost use Rattle.lt_model.specs.Matrices.{apply, IsSquare, IsInverse, Carries};
 ghost use Rattle.lt_model.specs.Simplices.{AllOfDimension, IsSimplex, IsClass};
 ghost use Rattle.lt_triang.specs.Bounds.{AreWithin};
-ghost use Rattle.lt_triang.specs.Kept.{IsTriangulation};
-ghost use Rattle.lt_match.specs.Images.{dimension_of, GoesInto, TakesTo};
+ghost use Rattle.lt_triang.specs.Kept.{IsTriangulation, dimension_of};
+ghost use Rattle.lt_match.specs.Images.{GoesInto, TakesTo};
 
 use crate::bases::{basis_of, matrix_taking};
 use crate::images::{goes_into, images};

@@ -7,12 +7,10 @@ ghost use Rattle.lt_model.specs.Limits.{span_limit};
 ghost use Rattle.lt_model.specs.Matrices.{Carries, AreEquivalent};
 ghost use Rattle.lt_model.specs.Principal.{IsOrder};
 ghost use Rattle.lt_model.specs.Simplices.{IsClass};
-ghost use Rattle.lt_model.specs.Triangulations.{IsDelaunay};
 ghost use Rattle.lt_geometry.specs.Carrying.{IsCandidate};
 ghost use Rattle.lt_geometry.proofs.Rearranged.{IsDistinct};
 ghost use Rattle.lt_triang.specs.Bounds.{AreNear};
-ghost use Rattle.lt_triang.specs.Kept.{IsTriangulation};
-ghost use Rattle.lt_match.specs.Images.{dimension_of};
+ghost use Rattle.lt_triang.specs.Kept.{IsTriangulation, dimension_of, IsOfSomeForm};
 ghost use Rattle.lt_match.specs.Bases.{IsBasis};
 ghost use Rattle.lt_match.specs.Matches.{in_order, BeginsWith, HasNoMatch, IsMatch, IsFirstOrder, IsFirstMatch, ArePlaces, IsBeginning};
 
@@ -182,8 +180,8 @@ pub fn match_types(
     to: &Triangulation,
 ) -> Result<Option<Matrix>, Memory>
     requires same { dimension_of to.now ≡ dimension_of from.now }
-    requires delaunay { (q : List ℤ) × IsDelaunay (dimension_of from.now) q from.now }
-    requires delaunay_too { (q : List ℤ) × IsDelaunay (dimension_of from.now) q to.now }
+    requires delaunay { IsOfSomeForm from.now }
+    requires delaunay_too { IsOfSomeForm to.now }
     ensures size { IfOk result (λ r. IfSome r (λ u. length u ≡ dimension_of from.now * dimension_of from.now)) }
     ensures first { IfOk result (λ r. MatchOption r (AreEquivalent (dimension_of from.now) from.now to.now → ⊥) (λ u. IsFirstMatch (dimension_of from.now) from.now to.now (rows (dimension_of from.now) u))) }
 {

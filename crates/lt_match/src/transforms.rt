@@ -7,8 +7,7 @@ ghost use Rattle.lt_model.specs.Limits as limits;
 ghost use Rattle.lt_model.specs.Matrices as matrix;
 ghost use Rattle.lt_model.specs.Matrices.{IsInverse, Carries};
 ghost use Rattle.lt_model.specs.Simplices.{IsClass, IsClassOf};
-ghost use Rattle.lt_triang.specs.Kept.{IsTriangulation};
-ghost use Rattle.lt_match.specs.Images.{dimension_of};
+ghost use Rattle.lt_triang.specs.Kept.{IsTriangulation, dimension_of};
 ghost use Rattle.lt_match.specs.Wide.{told_span, IsWideImage, AreImages};
 ghost use Rattle.lt_match.specs.declared.transforms.ImageError.TheVariants.{Wide};
 

@@ -1,9 +1,9 @@
 -- A Delaunay triangulation tells its dimension.
+use Rattle.lt_triang.specs.Kept.{dimension_of}
 use Rattle.std.proofs.Common.{arith, ◌≡◌, ℕ, ℤ, List, [], get_or}
 use Rattle.std.proofs.lemmas.List.Elements.{Contains-get_or}
 use Rattle.lt_model.specs.Simplices.{IsClass}
 use Rattle.lt_model.specs.Triangulations.{IsDelaunay}
-use Rattle.lt_match.specs.Images.{dimension_of}
 
 pub dimension : (d : ℕ) (q : List ℤ) (t : List (List (List ℤ))) → IsDelaunay d q t → dimension_of t ≡ d
 dimension d q t h =

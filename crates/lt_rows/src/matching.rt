@@ -1,13 +1,14 @@
 //! Matrices between triangulations.
 
-ghost use Rattle.std.specs.Prelude.{◌≡◌, ◌≤◌, ℤ, List, length, IfOk};
-ghost use Rattle.lt_model.specs.Triangulations.{IsDelaunay};
-ghost use Rattle.lt_match.specs.Images.{dimension_of};
+ghost use Rattle.lt_triang.specs.Kept.{dimension_of, IsOfSomeForm};
+ghost use Rattle.std.specs.Prelude.{◌≡◌, ◌≤◌, length, IfOk};
 
-use lt_geometry::{images_are_delaunay, principal_is_delaunay};
+use lt_flip::flip;
+use lt_geometry::{images_are_delaunay, principal_facets, principal_is_delaunay, principal_regulators};
 use lt_lattice::{Matrix, Point, inverse_of};
 use lt_match::{ImageError, carries, image, match_types};
 use lt_principal::principal;
+use lt_regulator::regulators;
 use lt_triang::{Class, Triangulation};
 use std::alloc::Global;
 use std::process::Abort;
@@ -17,7 +18,7 @@ fn principal_of(rt: &impl Abort, alloc: Global, d: u8) -> Triangulation
     requires low { 2 ≤ d }
     requires high { d ≤ 6 }
     ensures dimension { dimension_of result ≡ d }
-    ensures delaunay { (q : List ℤ) × IsDelaunay (dimension_of result) q result }
+    ensures delaunay { IsOfSomeForm result }
 {
     principal_is_delaunay();
     match principal(alloc, d) {
@@ -38,11 +39,11 @@ fn image_by(
     t: &Triangulation,
 ) -> Result<Triangulation, ImageError>
     requires plane { dimension_of t.now ≡ 2 }
-    requires delaunay { (q : List ℤ) × IsDelaunay (dimension_of t.now) q t.now }
+    requires delaunay { IsOfSomeForm t.now }
     requires size { length u.now ≡ 4 }
     requires size_too { length v.now ≡ 4 }
     ensures dimension { IfOk result (λ r. dimension_of r ≡ 2) }
-    ensures delaunay { IfOk result (λ r. (q : List ℤ) × IsDelaunay (dimension_of r) q r) }
+    ensures delaunay { IfOk result (λ r. IsOfSomeForm r) }
 {
     images_are_delaunay();
     if !inverse_of(u, v) {
@@ -123,5 +124,62 @@ fn the_flip_of_the_plane_goes_back(rt: HostRuntime) {
             assert!(rt; !carries(&u, &flip, &t));
         }
         Err(_) => assert!(rt; false),
+    }
+}
+
+/// The principal triangulation, and the triangulation across its first facet.
+fn first_flip(rt: &impl Abort, alloc: Global, d: u8) -> (Triangulation, Triangulation)
+    requires low { 2 ≤ d }
+    requires high { d ≤ 6 }
+    ensures delaunay { IsOfSomeForm result.0 }
+    ensures delaunay_too { IsOfSomeForm result.1 }
+    ensures same { dimension_of result.1 ≡ dimension_of result.0 }
+{
+    principal_is_delaunay();
+    principal_regulators();
+    principal_facets();
+    let t = match principal(alloc, d) {
+        Ok(t) => t,
+        Err(_) => {
+            assert!(rt; false);
+            unreachable!()
+        }
+    };
+    let normals = match regulators(alloc, &t) {
+        Ok(normals) => normals,
+        Err(_) => {
+            assert!(rt; false);
+            unreachable!()
+        }
+    };
+    if normals.is_empty() {
+        assert!(rt; false);
+        unreachable!()
+    }
+    match flip(alloc, &t, &normals[0]) {
+        Ok(across) => (t, across),
+        Err(_) => {
+            assert!(rt; false);
+            unreachable!()
+        }
+    }
+}
+
+#[test]
+fn space_has_one_type(rt: HostRuntime) {
+    let (t, across) = first_flip(&rt, rt.alloc(), 3);
+    match match_types(rt.alloc(), &across, &t) {
+        Ok(Some(_found)) => {}
+        _ => assert!(rt; false),
+    }
+}
+
+#[test]
+fn dimension_four_has_more_types(rt: HostRuntime) {
+    let (t, across) = first_flip(&rt, rt.alloc(), 4);
+    assert_eq!(rt; across.len(), t.len());
+    match match_types(rt.alloc(), &t, &across) {
+        Ok(None) => {}
+        _ => assert!(rt; false),
     }
 }

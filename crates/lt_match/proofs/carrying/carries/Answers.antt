@@ -6,10 +6,10 @@ use Rattle.lt_model.specs.Limits.{span_limit}
 use Rattle.lt_model.specs.Flat.{rows}
 use Rattle.lt_model.specs.Matrices.{IsSquare, Carries}
 use Rattle.lt_model.proofs.Flat.{rows_square}
-use Rattle.lt_triang.specs.Kept.{IsTriangulation}
+use Rattle.lt_triang.specs.Kept.{IsTriangulation, dimension_of}
 use Rattle.lt_triang.proofs.Gaps.{member_near, within_from_near}
 use Rattle.lt_triang.proofs.Made.{classes_of}
-use Rattle.lt_match.specs.Images.{dimension_of, GoesInto}
+use Rattle.lt_match.specs.Images.{GoesInto}
 use Rattle.lt_match.proofs.Tested.{same_dimension, square_at, dimension_is, first_member, carries_tested, tested_count, tested_all, tested_inverse}
 use Rattle.lt_match.proofs.carrying.carries.Goals as goal
 

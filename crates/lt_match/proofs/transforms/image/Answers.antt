@@ -13,9 +13,8 @@ use Rattle.lt_model.proofs.Flat.{rows_square}
 use Rattle.lt_geometry.proofs.Crossed.{HasImage, has_image}
 use Rattle.lt_geometry.proofs.Matrices.{undone}
 use Rattle.lt_triang.specs.Across.{IsOpenAnswer}
-use Rattle.lt_triang.specs.Kept.{IsTriangulation, AreClasses}
+use Rattle.lt_triang.specs.Kept.{IsTriangulation, AreClasses, dimension_of}
 use Rattle.lt_triang.proofs.Gaps.{twice_limit}
-use Rattle.lt_match.specs.Images.{dimension_of}
 use Rattle.lt_match.specs.Wide.{told_span, IsWideImage, AreImages}
 use Rattle.lt_match.proofs.Spans.{told_of_image, carried_list, image_classes, none_open}
 use Rattle.lt_match.proofs.Tested.{dimension_is, square_at}
