@@ -1,6 +1,5 @@
-use Rattle.std.proofs.Common.{arith, ◌≡◌, ◌≤◌, ◌<◌, ◌∙◌, ap, ℕ, ℤ, List, [], get_or, length, sym, subst}
+use Rattle.std.proofs.Common.{arith, ◌≡◌, ◌≤◌, ◌<◌, ℕ, ℤ, List, length, sym, subst}
 use Rattle.std.specs.List.{Contains}
-use Rattle.std.proofs.lemmas.List.Elements.{Contains-get_or}
 use Rattle.lt_model.specs.Principal.{IsPrincipal, principal_numbers}
 use Rattle.lt_model.specs.Triangulations.{IsDelaunay}
 use Rattle.lt_model.specs.Walls.{AreRegulators, IsFacet}

@@ -1,5 +1,3 @@
-use Rattle.std.proofs.Common.{◌≡◌, ℕ, sym, subst}
-use Rattle.lt_model.specs.Triangulations.{IsDelaunay}
 use Rattle.lt_model.specs.Principal.{principal_numbers}
 use Rattle.lt_rows.proofs.Dimensions.{dimension, of_some_form}
 use Rattle.lt_rows.proofs.matching.principal_of.Goals as goal
