@@ -1,5 +1,4 @@
-use Rattle.std.proofs.Common.{◌≡◌, ℕ, ℤ, List, sym, subst}
-use Rattle.lt_triang.specs.Kept.{dimension_of}
+use Rattle.std.proofs.Common.{ℕ, ℤ, List, sym, subst}
 use Rattle.lt_model.specs.Flat.{rows}
 use Rattle.lt_model.specs.Matrices.{IsInverse, Carries}
 use Rattle.lt_model.specs.Triangulations.{IsDelaunay}
