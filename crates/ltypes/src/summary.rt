@@ -72,7 +72,13 @@ fn write_columns<K: Sink>(out: &mut K, numbers: &[(usize, u64)]) -> Result<(), F
 }
 
 /// Writes the line of the entry, of which no facet is crossed.
-fn write_entry<K: Sink>(out: &mut K, classes: u64, regulators: u64, facets: u64, weight: i128) -> Result<(), Failed>
+fn write_entry<K: Sink>(
+    out: &mut K,
+    classes: u64,
+    regulators: u64,
+    facets: u64,
+    weight: i128,
+) -> Result<(), Failed>
     ensures bytes { (w : ℕ) → weight ≡ pos w → Wrote (K.held out.old) (K.held out.new) result (entry_line 0 classes regulators facets 0 facets w) }
     ensures cause { HasCause (K.faults out.old) (K.faults out.new) result }
 {
@@ -116,7 +122,11 @@ pub fn write_summary<K: Sink>(out: &mut K, start: &Start) -> Result<(), Failed>
     ensures cause { HasCause (K.faults out.old) (K.faults out.new) result }
 {
     let facets = start.cone.facets() as u64;
-    write_line(out, b"  type simplices regulators facets crossed    open weight", &[])?;
+    write_line(
+        out,
+        b"  type simplices regulators facets crossed    open weight",
+        &[],
+    )?;
     write_entry(
         out,
         start.triangulation.len() as u64,
