@@ -1,3 +1,4 @@
+pub mod AllRows
 pub mod Extreme
 pub mod WallSums
 pub mod RightCones

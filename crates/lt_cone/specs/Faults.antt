@@ -1,0 +1,19 @@
+-- What is wrong with a cone.
+use Rattle.std.specs.Prelude.{◌≡◌, ◌⊎◌, ◌<◌, ◌≤◌, ◌+◌, ℕ, ℤ, List, [], length, get_or}
+use Rattle.lt_model.specs.Cones.{Row, Cone, IsRightVerdict, sum_of_walls}
+use Rattle.lt_model.specs.Limits.{weight, weight_limit}
+use Rattle.lt_lp.specs.Reduced.{IsReduced}
+use Rattle.lt_cone.specs.declared.error.ConeFault.{ConeFault}
+use Rattle.lt_cone.specs.declared.error.ConeFault.TheVariants.{Wrong, Memory}
+
+-- there is a row at place k, with the k-th normal and a right verdict on it
+abbrev pub IsRowOf : ℕ → List (List ℤ) → List Row → ℕ → Type 0
+IsRowOf d ns rows k = (k < length rows) × ((r : Row) → ((get_or rows k r).normal ≡ get_or ns k []) × IsRightVerdict d ns k (get_or rows k r).verdict)
+
+-- the first wrong row; the number of normals where the rows are right; one more where the weight is too large
+abbrev pub IsFault : ℕ → List (List ℤ) → Cone → ConeFault → Type 0
+IsFault d ns c Memory = Unit
+IsFault d ns c (Wrong row) =
+    ((weight_limit ≤ weight d ns) × (row ≡ length ns + 1))
+    ⊎ ((weight d ns < weight_limit) × (row < length ns) × ((k : ℕ) → k < row → IsRowOf d ns c.rows k) × (IsRowOf d ns c.rows row → ⊥))
+    ⊎ ((weight d ns < weight_limit) × (row ≡ length ns) × ((k : ℕ) → k < row → IsRowOf d ns c.rows k) × ((length c.rows ≡ length ns) × IsReduced (sum_of_walls c.rows) c.form → ⊥))
