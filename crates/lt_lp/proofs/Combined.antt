@@ -40,7 +40,7 @@ same_lists (a ∷ x) (b ∷ y) l h =
     let r = same_lists x y (omega arith) (λ q k. h (suc q) (omega arith)) in
     cc
 
-combine-scale : (g : ℤ) (ts : List ℤ) (vs : List (List ℤ)) (q : ℕ) → lookup (combine (scale g ts) vs) q ≡ g *ℤ lookup (combine ts vs) q
+pub combine-scale : (g : ℤ) (ts : List ℤ) (vs : List (List ℤ)) (q : ℕ) → lookup (combine (scale g ts) vs) q ≡ g *ℤ lookup (combine ts vs) q
 combine-scale g [] vs q = rw (lookup_none q) (sym (mul_zero_z g))
 combine-scale g (t ∷ ts) [] q = rw (lookup_none q) (sym (mul_zero_z g))
 combine-scale g (t ∷ ts) (v ∷ vs) q =

@@ -17,3 +17,5 @@ pub mod TermLoops
 pub mod Decided
 pub mod FacetRows
 pub mod Checked
+pub mod Gordan
+pub mod OneAlternative

@@ -5,3 +5,4 @@ pub mod Terms
 pub mod Positive
 pub mod Facets
 pub mod Checks
+pub mod Alternatives

@@ -5,6 +5,7 @@ mod checks;
 mod combinations;
 mod cones;
 mod deciding;
+mod laws;
 mod primitives;
 mod rule;
 mod sums;
@@ -13,4 +14,5 @@ mod walls;
 
 pub use checks::check;
 pub use deciding::decide;
+pub use laws::alternatives;
 pub use verdicts::{Cone, LpError, Row, Verdict};
