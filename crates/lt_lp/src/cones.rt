@@ -19,6 +19,13 @@ impl Row {
 }
 
 impl Cone {
+    /// The number of rows.
+    pub fn regulators(&self) -> usize
+        ensures { result ≡ length self.now.rows }
+    {
+        self.rows.len()
+    }
+
     /// The number of rows with a wall form.
     pub fn facets(&self) -> usize
         ensures value { result ≡ length (facets_of self.now.rows) }

@@ -1,2 +1,4 @@
 pub mod Outputs
+pub mod SameFacets
+pub mod Starts
 pub mod Written

@@ -130,7 +130,7 @@ pub fn write_summary<K: Sink>(out: &mut K, start: &Start) -> Result<(), Failed>
     write_entry(
         out,
         start.triangulation.len() as u64,
-        start.cone.rows.len() as u64,
+        start.cone.regulators() as u64,
         facets,
         start.weight,
     )?;

@@ -6,4 +6,4 @@ pub returns : goal.returns
 returns g c =
     let same = ap (λ (f : List ℤ). type_text c.args.d f c.in-Ok.triangulation) (c.numbers.ensures.value ∙ c.principal_form-form.ensures) in
     let text = type_text c.args.d c.numbers.result.now c.in-Ok.triangulation in
-    record { answer = (c.in-Err-write_type.ensures.cause.failed, (text, (c.in-Ok.triangulation, c.in-Ok.ensures, same), c.in-Err-write_type.ensures.bytes.front)) }
+    record { answer = (c.in-Err-write_type.ensures.cause.failed, (text, (c.in-Ok.triangulation, c.in-Ok.ensures.principal, same), c.in-Err-write_type.ensures.bytes.front)) }

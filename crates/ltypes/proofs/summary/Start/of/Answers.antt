@@ -1,0 +1,32 @@
+use Rattle.std.proofs.Common.{◌≡◌, ◌∙◌, ℕ, ℤ, pos, List, sym, ap, subst}
+use Rattle.std.proofs.lemmas.Int.{to_z-of_z}
+use Rattle.lt_model.specs.Cones.{IsRightCone, normals}
+use Rattle.lt_model.specs.Limits.{weight}
+use Rattle.lt_model.specs.Principal.{principal_numbers}
+use Rattle.lt_model.specs.Walls.{AreRegulators}
+use Rattle.lt_triang.specs.Kept.{dimension_of}
+use Rattle.lt_triang.proofs.SomeForm.{delaunay_dimension, some_form}
+use Rattle.lt_tableau.specs.Errors.{AreOfDimension}
+use Rattle.lt_cone.proofs.RightCones.{one_list}
+use Rattle.ltypes.proofs.Starts.{regulator_lengths}
+use Rattle.ltypes.proofs.summary.Start.of.Goals as goal
+
+pub cone-requires : goal.cone-requires
+cone-requires c = some_form c.args.d (principal_numbers c.args.d) c.in-Ok.triangulation c.in-Ok.ensures.delaunay
+
+pub returns-clause-cone : goal.returns-clause-cone
+returns-clause-cone c =
+    subst (λ (e : ℕ). IsRightCone e c.in-Ok.triangulation c.in-Ok-cone.cone) (sym (delaunay_dimension c.args.d (principal_numbers c.args.d) c.in-Ok.triangulation c.in-Ok.ensures.delaunay)) c.in-Ok-cone.ensures.right
+
+pub returns-clause-weight : goal.returns-clause-weight
+returns-clause-weight c =
+    let d = c.args.d in
+    let t = c.in-Ok.triangulation in
+    let ns = c.in-Ok-regulators.normals.items in
+    let ms : List (List ℤ) = normals c.in-Ok-cone.cone.rows in
+    let same : dimension_of t ≡ d = sym (delaunay_dimension d (principal_numbers d) t c.in-Ok.ensures.delaunay) in
+    let right : IsRightCone d t c.in-Ok-cone.cone = subst (λ (e : ℕ). IsRightCone e t c.in-Ok-cone.cone) same c.in-Ok-cone.ensures.right in
+    let all : AreRegulators d t ns = subst (λ (e : ℕ). AreRegulators e t ns) same c.in-Ok-regulators.ensures in
+    let slice : c.as_slice.result.now ≡ ns = c.as_slice.ensures.value in
+    let lengths : AreOfDimension d c.as_slice.result.now = subst (λ (l : List (List ℤ)). AreOfDimension d l) (sym slice) (regulator_lengths d (principal_numbers d) t ns c.in-Ok.ensures.delaunay all) in
+    simp (to_z-of_z, c.weight.type_inv) (c.weight.ensures d lengths ∙ ap (λ (l : List (List ℤ)). pos (weight d l)) (slice ∙ one_list d t ns ms all right.regulators))
