@@ -1,4 +1,4 @@
-use Rattle.std.proofs.Common.{ℕ, pos, [], ◌∷◌, ◌++◌, length, sym, subst}
+use Rattle.std.proofs.Common.{ℕ, pos, [], ◌∷◌, ◌++◌, length, subst}
 use Rattle.std.specs.Io.KnownBytes.{Appends}
 use Rattle.lt_io.specs.Bytes.{AppendsFront}
 use Rattle.std.specs.Prelude.{codes}

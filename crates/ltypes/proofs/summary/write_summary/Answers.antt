@@ -25,7 +25,7 @@ returns-in_err-write_entry-clause-bytes g c =
     λ w is.
     let n = length (facets_of c.args.start.now.cone.rows) in
     let entry = entry_line 0 (length c.args.start.now.triangulation) (length c.args.start.now.cone.rows) n 0 n w in
-    let same = same_entry c.len.result (length c.args.start.now.triangulation) c.len-2.result (length c.args.start.now.cone.rows) c.facets-facets.result n w (c.len.ensures ∙ ap (λ s. length s.triangulation) c.start.view_is) c.len-2.ensures c.facets-facets.ensures.value in
+    let same = same_entry c.len.result (length c.args.start.now.triangulation) c.regulators.result (length c.args.start.now.cone.rows) c.facets-facets.result n w c.len.ensures c.regulators.ensures c.facets-facets.ensures.value in
     let front = subst (λ (l : List ℕ). AppendsFront (g.K.Sink.held c.write_line.new.sink) (g.K.Sink.held c.write_entry.new.out) l) same (c.in_err-write_entry.ensures.bytes w is).front in
     let p = err_from_is_err_and c.from_residual-in_err-write_entry.result c.from_residual-in_err-write_entry.ensures.1 in
     wrote_front _ _ _ _ _ p.1 (front_of_more _ _ (header ++ entry) (last_line 1 n 0 n) (appended_then_front _ _ _ header entry c.in_ok-write_line.ensures.bytes.whole front))
@@ -35,7 +35,7 @@ returns-clause-bytes g c =
     λ w is.
     let n = length (facets_of c.args.start.now.cone.rows) in
     let entry = entry_line 0 (length c.args.start.now.triangulation) (length c.args.start.now.cone.rows) n 0 n w in
-    let same = same_entry c.len.result (length c.args.start.now.triangulation) c.len-2.result (length c.args.start.now.cone.rows) c.facets-facets.result n w (c.len.ensures ∙ ap (λ s. length s.triangulation) c.start.view_is) c.len-2.ensures c.facets-facets.ensures.value in
+    let same = same_entry c.len.result (length c.args.start.now.triangulation) c.regulators.result (length c.args.start.now.cone.rows) c.facets-facets.result n w c.len.ensures c.regulators.ensures c.facets-facets.ensures.value in
     let whole = subst (λ (l : List ℕ). Appends (g.K.Sink.held c.write_line.new.sink) (g.K.Sink.held c.write_entry.new.out) l) same (c.in_ok-write_entry.ensures.bytes w is).whole in
     let last = subst (λ (l : List ℕ). Wrote (g.K.Sink.held c.write_entry.new.out) (g.K.Sink.held c.write_last.new.out) c.write_last.result l) (ap (λ (m : ℕ). last_line 1 m 0 m) c.facets-facets.ensures.value) c.write_last.ensures.bytes in
     wrote_then _ _ _ _ (header ++ entry) (last_line 1 n 0 n) (appended_then _ _ _ header entry c.in_ok-write_line.ensures.bytes.whole whole) last
