@@ -14,7 +14,7 @@ use std::alloc::Global;
 use std::process::Abort;
 
 /// The principal triangulation.
-fn principal_of(rt: &impl Abort, alloc: Global, d: u8) -> Triangulation
+pub fn principal_of(rt: &impl Abort, alloc: Global, d: u8) -> Triangulation
     requires low { 2 ≤ d }
     requires high { d ≤ 6 }
     ensures dimension { dimension_of result ≡ d }
@@ -30,7 +30,7 @@ fn principal_of(rt: &impl Abort, alloc: Global, d: u8) -> Triangulation
 }
 
 /// The image of a triangulation of the plane under a matrix whose inverse is given.
-fn image_by(
+pub fn image_by(
     rt: &impl Abort,
     alloc: Global,
     u: &Matrix,
@@ -97,7 +97,7 @@ fn first_flip(rt: &impl Abort, alloc: Global, d: u8) -> (Triangulation, Triangul
 }
 
 /// Whether the class has these three vertices.
-fn is_class(class: &Class, first: Point, second: Point, third: Point) -> bool {
+pub fn is_class(class: &Class, first: Point, second: Point, third: Point) -> bool {
     class.vertices() == [first, second, third].as_slice()
 }
 
