@@ -1,5 +1,5 @@
 -- Two lists of normals of forms in two variables: their weights are below the limit, and the second ones are positive at a form.
-use Rattle.std.proofs.Common.{arith, refl, sym, subst, ℕ, zero, suc, ℤ, pos, negsuc, ◌≡◌, ◌<◌, ◌<ℤ◌, List, [], ◌∷◌, length}
+use Rattle.std.proofs.Common.{arith, refl, sym, subst, ℕ, zero, suc, ℤ, pos, negsuc, ◌≡◌, ◌<◌, List, [], ◌∷◌, length}
 use Rattle.std.proofs.lemmas.Int.{ints}
 use Rattle.std.proofs.lemmas.List.Elements.{All-from_recursion}
 use Rattle.lt_model.specs.Forms.{numbers_of_form}
