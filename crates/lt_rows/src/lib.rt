@@ -3,6 +3,10 @@
 #![tactic(auto)]
 
 #[cfg(test)]
+mod cones;
+#[cfg(test)]
+mod flips;
+#[cfg(test)]
 mod geometry;
 #[cfg(test)]
 mod lattice;

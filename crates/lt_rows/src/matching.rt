@@ -3,18 +3,18 @@
 ghost use Rattle.lt_triang.specs.Kept.{dimension_of, IsOfSomeForm};
 ghost use Rattle.std.specs.Prelude.{◌≡◌, ◌≤◌, length, IfOk};
 
+use crate::cones::facet;
 use lt_flip::flip;
-use lt_geometry::{images_are_delaunay, principal_facets, principal_regulators};
+use lt_geometry::images_are_delaunay;
 use lt_lattice::{Matrix, Point, inverse_of};
 use lt_match::{ImageError, carries, image, match_types};
 use lt_principal::principal;
-use lt_regulator::regulators;
 use lt_triang::{Class, Triangulation};
 use std::alloc::Global;
 use std::process::Abort;
 
 /// The principal triangulation.
-fn principal_of(rt: &impl Abort, alloc: Global, d: u8) -> Triangulation
+pub fn principal_of(rt: &impl Abort, alloc: Global, d: u8) -> Triangulation
     requires low { 2 ≤ d }
     requires high { d ≤ 6 }
     ensures dimension { dimension_of result ≡ d }
@@ -30,7 +30,7 @@ fn principal_of(rt: &impl Abort, alloc: Global, d: u8) -> Triangulation
 }
 
 /// The image of a triangulation of the plane under a matrix whose inverse is given.
-fn image_by(
+pub fn image_by(
     rt: &impl Abort,
     alloc: Global,
     u: &Matrix,
@@ -67,27 +67,9 @@ fn first_flip(rt: &impl Abort, alloc: Global, d: u8) -> (Triangulation, Triangul
     ensures delaunay_too { IsOfSomeForm result.1 }
     ensures same { dimension_of result.1 ≡ dimension_of result.0 }
 {
-    principal_regulators();
-    principal_facets();
-    let t = match principal(alloc, d) {
-        Ok(t) => t,
-        Err(_) => {
-            assert!(rt; false);
-            unreachable!()
-        }
-    };
-    let normals = match regulators(alloc, &t) {
-        Ok(normals) => normals,
-        Err(_) => {
-            assert!(rt; false);
-            unreachable!()
-        }
-    };
-    if normals.len() == 0 {
-        assert!(rt; false);
-        unreachable!()
-    }
-    match flip(alloc, &t, &normals[0]) {
+    let t = principal_of(rt, alloc, d);
+    let normal = facet(rt, alloc, &t, 0);
+    match flip(alloc, &t, &normal) {
         Ok(across) => (t, across),
         Err(_) => {
             assert!(rt; false);
@@ -97,7 +79,7 @@ fn first_flip(rt: &impl Abort, alloc: Global, d: u8) -> (Triangulation, Triangul
 }
 
 /// Whether the class has these three vertices.
-fn is_class(class: &Class, first: Point, second: Point, third: Point) -> bool {
+pub fn is_class(class: &Class, first: Point, second: Point, third: Point) -> bool {
     class.vertices() == [first, second, third].as_slice()
 }
 
