@@ -1,6 +1,6 @@
 -- Of distinct primitive normals that a form makes positive, one is no combination of the others: the lexicographically least,
 -- where each normal is taken over its value at the form.
-use Rattle.std.proofs.Common.{◌≡◌, ◌≢◌, ◌⊎◌, inl, inr, refl, sym, ◌∙◌, ap, ℕ, zero, suc, ◌+◌, ◌≤◌, ◌<◌, ℤ, pos, negsuc, neg_ℤ, ◌+ℤ◌, ◌-ℤ◌, ◌*ℤ◌, ◌≤ℤ◌, ◌<ℤ◌, arith, List, [], ◌∷◌, length, map, get_or}
+use Rattle.std.proofs.Common.{◌≡◌, ◌≢◌, ◌⊎◌, inl, inr, refl, sym, ◌∙◌, ap, ℕ, zero, suc, ◌≤◌, ◌<◌, ℤ, pos, negsuc, neg_ℤ, ◌+ℤ◌, ◌-ℤ◌, ◌*ℤ◌, ◌≤ℤ◌, ◌<ℤ◌, arith, List, [], ◌∷◌, length, map, get_or}
 use Rattle.std.specs.List.{All}
 use Rattle.std.proofs.lemmas.Int.{ints, by_lt_z}
 use Rattle.std.proofs.lemmas.List.Elements.{All-head, All-tail}
@@ -8,15 +8,15 @@ use native.Mathlib.Decide.{ℕ_discrete, dec_le}
 use Rattle.lt_model.specs.Padded.{lookup}
 use Rattle.lt_model.specs.Vectors.{plus, scale, dot, combine, IsPrimitive}
 use Rattle.lt_model.specs.Cones.{coefficients, places}
-use Rattle.lt_model.proofs.Integers.{mul_zero_z, zero_mul_z}
-use Rattle.lt_model.proofs.Ring.{ring, ring_by, ring_by_two, var, num, neg, ◌⊕◌, ◌⊖◌, ◌⊗◌}
+use Rattle.lt_model.proofs.Integers.{mul_zero_z}
+use Rattle.lt_model.proofs.Ring.{ring, ring_by, var, num, neg, ◌⊕◌, ◌⊖◌, ◌⊗◌}
 use Rattle.lt_model.proofs.Inequalities.{mul_pos_z, mul_le_mul_z, cancel_z}
 use Rattle.lt_model.proofs.Squares.{length-scale}
-use Rattle.lt_model.proofs.Vectors.{dot-scale, dot_comm}
+use Rattle.lt_model.proofs.Vectors.{dot-scale}
 use Rattle.lt_model.proofs.Excess.{scale-dot, plus-dot}
 use Rattle.lt_model.proofs.Walk.{plus-nil}
 use Rattle.lt_tableau.specs.Numbers.{column_at}
-use Rattle.lt_tableau.proofs.Sums.{lookup_none, lookup_plus, lookup_scale}
+use Rattle.lt_tableau.proofs.Sums.{lookup_plus, lookup_scale}
 use Rattle.lt_lp.specs.Positive.{IsPositiveAt}
 use Rattle.lt_lp.proofs.Combined.{same_lists}
 use Rattle.lt_geometry.proofs.Primitive.{same_primitive}
@@ -32,16 +32,20 @@ up_sum f g h a b e = pick (dec_le a.at b.at)
   where
     both : (x y : ℤ) → x ≡ pos 0 → y ≡ pos 0 → x +ℤ y ≡ pos 0
     both x y p q = omega (arith, ints)
+
     plus : (x y : ℤ) → pos 0 <ℤ x → pos 0 ≤ℤ y → pos 0 <ℤ (x +ℤ y)
     plus x y p q = omega (arith, ints)
+
     plus_right : (x y : ℤ) → x ≡ pos 0 → pos 0 <ℤ y → pos 0 <ℤ (x +ℤ y)
     plus_right x y p q = omega (arith, ints)
+
     at_least : Dec (b.at ≤ a.at) → a.at ≤ b.at → pos 0 ≤ℤ g a.at
     at_least (yes l) k = let s : b.at ≡ a.at = omega arith in let p = b.positive in rw (sym s) (weak (g b.at) p)
       where
         weak : (x : ℤ) → pos 0 <ℤ x → pos 0 ≤ℤ x
         weak x p = omega (arith, ints)
     at_least (no l) k = rw (b.before a.at (omega arith)) (omega (arith, ints))
+
     pick : Dec (a.at ≤ b.at) → IsUp h
     pick (yes l) = record {
       at = a.at;
@@ -78,14 +82,16 @@ up_or (suc n) f = pick (up_or n f)
   where
     opposite : (x : ℤ) → x ≡ pos 0 → neg_ℤ x ≡ pos 0
     opposite x e = omega (arith, ints)
+
     last : ((m : ℕ) → m < n → f m ≡ pos 0) → (x : ℤ) → f n ≡ x → ((m : ℕ) → m < suc n → f m ≡ pos 0) ⊎ (IsUp f ⊎ IsUp (λ (m : ℕ). neg_ℤ (f m)))
     last h (pos zero) e = inl (λ m l. each m l (ℕ_discrete m n))
       where
         each : (m : ℕ) → m < suc n → Dec (m ≡ n) → f m ≡ pos 0
         each m l (yes q) = rw q e
         each m l (no q) = h m (omega arith)
-    last h (pos (suc k)) e = inr (inl record { at = n; positive = rw e (omega (arith, ints)); before = h; })
-    last h (negsuc k) e = inr (inr record { at = n; positive = rw e (omega (arith, ints)); before = λ m l. opposite (f m) (h m l); })
+    last h (pos (suc k)) e = inr (inl record { at = n; positive = rw e (omega (arith, ints)); before = h })
+    last h (negsuc k) e = inr (inr record { at = n; positive = rw e (omega (arith, ints)); before = λ m l. opposite (f m) (h m l) })
+
     pick : ((m : ℕ) → m < n → f m ≡ pos 0) ⊎ (IsUp f ⊎ IsUp (λ (m : ℕ). neg_ℤ (f m))) → ((m : ℕ) → m < suc n → f m ≡ pos 0) ⊎ (IsUp f ⊎ IsUp (λ (m : ℕ). neg_ℤ (f m)))
     pick (inl h) = last h (f n) refl
     pick (inr h) = inr h
@@ -101,8 +107,8 @@ up_far : (form a b c : List ℤ) → pos 0 <ℤ dot a form → pos 0 <ℤ dot b 
 up_far form a b c pa pb pc x y =
     up_over (dot b form) (apart form a c) (λ (m : ℕ). dot c form *ℤ apart form a b m +ℤ dot a form *ℤ apart form b c m) pb
     (up_sum (λ (m : ℕ). dot c form *ℤ apart form a b m) (λ (m : ℕ). dot a form *ℤ apart form b c m) (λ (m : ℕ). dot c form *ℤ apart form a b m +ℤ dot a form *ℤ apart form b c m)
-        (up_times (dot c form) (apart form a b) (λ (m : ℕ). dot c form *ℤ apart form a b m) pc x (λ m. refl))
-        (up_times (dot a form) (apart form b c) (λ (m : ℕ). dot a form *ℤ apart form b c m) pa y (λ m. refl)) (λ m. refl))
+    (up_times (dot c form) (apart form a b) (λ (m : ℕ). dot c form *ℤ apart form a b m) pc x (λ m. refl))
+    (up_times (dot a form) (apart form b c) (λ (m : ℕ). dot a form *ℤ apart form b c m) pa y (λ m. refl)) (λ m. refl))
     (λ m. ring (lookup a m ∷ lookup b m ∷ lookup c m ∷ dot a form ∷ dot b form ∷ dot c form ∷ [])
     (var 5 ⊗ (var 1 ⊗ var 3 ⊖ var 0 ⊗ var 4) ⊕ var 3 ⊗ (var 2 ⊗ var 4 ⊖ var 1 ⊗ var 5)) (var 4 ⊗ (var 2 ⊗ var 3 ⊖ var 0 ⊗ var 5)) tt)
 
@@ -124,7 +130,7 @@ tied n form a b la lb pa pb da db z =
     let g = positive_pos (dot b form) db in
     let h = positive_pos (dot a form) da in
     let e : scale (dot b form) a ≡ scale (dot a form) b = same_lists (scale (dot b form) a) (scale (dot a form) b) (length-scale (dot b form) a ∙ la ∙ sym (length-scale (dot a form) b ∙ lb))
-        (λ q l. (let k : q < n = rw (length-scale (dot a form) b, lb) at l in let y = z q k in lookup_scale (dot b form) a q ∙ even (lookup b q) (dot a form) (lookup a q) (dot b form) y ∙ sym (lookup_scale (dot a form) b q))) in
+    (λ q l. (let k : q < n = rw (length-scale (dot a form) b, lb) at l in let y = z q k in lookup_scale (dot b form) a q ∙ even (lookup b q) (dot a form) (lookup a q) (dot b form) y ∙ sym (lookup_scale (dot a form) b q))) in
     same_primitive g.0 h.0 a b g.1 h.1 (la ∙ sym lb) pa pb (λ u. ap (λ (x : ℤ). x *ℤ dot u a) (sym g.2) ∙ sym (dot-scale u (dot b form) a) ∙ ap (dot u) e ∙ dot-scale u (dot a form) b ∙ ap (λ (x : ℤ). x *ℤ dot u b) h.2)
   where
     even : (x y u v : ℤ) → x *ℤ y -ℤ u *ℤ v ≡ pos 0 → v *ℤ u ≡ y *ℤ x
@@ -135,7 +141,8 @@ less_or : (n : ℕ) (form : List ℤ) (ns : List (List ℤ)) (i j : ℕ) → Are
 less_or n form ns i j d li lj ne = pick (up_or n (apart form (column_at ns i) (column_at ns j)))
   where
     back : IsUp (λ (m : ℕ). neg_ℤ (apart form (column_at ns i) (column_at ns j) m)) → IsUp (apart form (column_at ns j) (column_at ns i))
-    back u = record { at = u.at; positive = rw (apart_back form (column_at ns i) (column_at ns j) u.at) u.positive; before = λ m k. apart_back form (column_at ns i) (column_at ns j) m ∙ u.before m k; }
+    back u = record { at = u.at; positive = rw (apart_back form (column_at ns i) (column_at ns j) u.at) u.positive; before = λ m k. apart_back form (column_at ns i) (column_at ns j) m ∙ u.before m k }
+
     pick : ((m : ℕ) → m < n → apart form (column_at ns i) (column_at ns j) m ≡ pos 0) ⊎ (IsUp (apart form (column_at ns i) (column_at ns j)) ⊎ IsUp (λ (m : ℕ). neg_ℤ (apart form (column_at ns i) (column_at ns j) m))) → IsUp (apart form (column_at ns i) (column_at ns j)) ⊎ IsUp (apart form (column_at ns j) (column_at ns i))
     pick (inl z) = absurd (d.different i j li lj ne (tied n form (column_at ns i) (column_at ns j) (d.lengths i li) (d.lengths j lj) (d.primitive i li) (d.primitive j lj) (d.positive i li) (d.positive j lj) z))
     pick (inr (inl u)) = inl u
@@ -147,19 +154,19 @@ pub record IsLeast (form : List ℤ) (ns : List (List ℤ)) (m k : ℕ) : Type 0
   pub least : (i : ℕ) → i < m → i ≢ k → IsUp (apart form (column_at ns k) (column_at ns i))
 
 least_of : (n : ℕ) (form : List ℤ) (ns : List (List ℤ)) (m : ℕ) → AreDistinct n form ns → suc m ≤ length ns → (k : ℕ) × IsLeast form ns (suc m) k
-least_of n form ns zero d l = (0, record { inside = omega arith; least = λ i h e. absurd (omega arith); })
+least_of n form ns zero d l = (0, record { inside = omega arith; least = λ i h e. absurd (omega arith) })
 least_of n form ns (suc m) d l = pick (least_of n form ns m d (omega arith))
   where
     pick : (k : ℕ) × IsLeast form ns (suc m) k → (k : ℕ) × IsLeast form ns (suc (suc m)) k
     pick r = choose (less_or n form ns r.0 (suc m) d (let a = r.1.inside in omega arith) (omega arith) (λ e. (let a = r.1.inside in absurd (omega arith))))
       where
         choose : IsUp (apart form (column_at ns r.0) (column_at ns (suc m))) ⊎ IsUp (apart form (column_at ns (suc m)) (column_at ns r.0)) → (k : ℕ) × IsLeast form ns (suc (suc m)) k
-        choose (inl u) = (r.0, record { inside = (let a = r.1.inside in omega arith); least = λ i h e. each i h e (ℕ_discrete i (suc m)); })
+        choose (inl u) = (r.0, record { inside = (let a = r.1.inside in omega arith); least = λ i h e. each i h e (ℕ_discrete i (suc m)) })
           where
             each : (i : ℕ) → i < suc (suc m) → i ≢ r.0 → Dec (i ≡ suc m) → IsUp (apart form (column_at ns r.0) (column_at ns i))
             each i h e (yes q) = rw q u
             each i h e (no q) = r.1.least i (omega arith) e
-        choose (inr u) = (suc m, record { inside = omega arith; least = λ i h e. each i h e (ℕ_discrete i r.0); })
+        choose (inr u) = (suc m, record { inside = omega arith; least = λ i h e. each i h e (ℕ_discrete i r.0) })
           where
             each : (i : ℕ) → i < suc (suc m) → i ≢ suc m → Dec (i ≡ r.0) → IsUp (apart form (column_at ns (suc m)) (column_at ns i))
             each i h e (yes q) = rw q u
@@ -208,4 +215,4 @@ extreme n form (x ∷ xs) d o h =
     none k l least factor (t ∷ ts) w e p s =
         never_up _ (terms_up form (x ∷ xs) k t ts least w e p)
         (λ m. rw (s, lookup_scale factor (get_or (x ∷ xs) k []) m, scale-dot factor (get_or (x ∷ xs) k []) form)
-            (ring (factor ∷ lookup (get_or (x ∷ xs) k []) m ∷ dot (get_or (x ∷ xs) k []) form ∷ []) (var 0 ⊗ var 1 ⊗ var 2 ⊖ var 1 ⊗ (var 0 ⊗ var 2)) (num (pos 0)) tt))
+        (ring (factor ∷ lookup (get_or (x ∷ xs) k []) m ∷ dot (get_or (x ∷ xs) k []) form ∷ []) (var 0 ⊗ var 1 ⊗ var 2 ⊖ var 1 ⊗ (var 0 ⊗ var 2)) (num (pos 0)) tt))

@@ -1,2 +1,4 @@
 pub mod Extreme
 pub mod WallSums
+pub mod RightCones
+pub mod RowLists

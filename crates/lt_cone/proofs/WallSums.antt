@@ -1,17 +1,18 @@
 -- Sums of walls: number by number, how large, and not 0.
-use Rattle.std.proofs.Common.{◌≡◌, ◌≢◌, ◌⊎◌, inl, inr, refl, sym, ◌∙◌, ap, subst, ℕ, zero, suc, ◌+◌, ◌*◌, ◌^◌, ◌≤◌, ◌<◌, ℤ, pos, negsuc, ◌+ℤ◌, ◌*ℤ◌, ◌≤ℤ◌, ◌<ℤ◌, arith, List, [], ◌∷◌, ◌++◌, length, map, get_or, drop, drop-cons, add-one, set, length-set, get_or-set_same, get_or-set_other, nat_abs, FitsSigned}
+use Rattle.std.proofs.Common.{◌≡◌, ◌≢◌, ◌⊎◌, inl, inr, refl, sym, ◌∙◌, ap, ℕ, zero, suc, ◌+◌, ◌*◌, ◌^◌, ◌≤◌, ◌<◌, ℤ, pos, ◌+ℤ◌, arith, List, [], ◌∷◌, ◌++◌, length, get_or, drop, drop-cons, add-one, set, length-set, get_or-set_same, get_or-set_other, nat_abs, FitsSigned}
 use Rattle.std.specs.List.{All}
 use Rattle.std.specs.Int.{w128}
 use Rattle.std.proofs.lemmas.Int.{ints, fits_signed_from_abs}
 use native.Mathlib.Decide.{ℕ_discrete, dec_le}
 use Rattle.lt_model.specs.Padded.{lookup}
-use Rattle.lt_model.specs.Vectors.{plus, scale, dot, zeros, IsPrimitive}
-use Rattle.lt_model.specs.Forms.{numbers_of_form}
+use Rattle.lt_model.specs.Vectors.{plus, zeros}
 use Rattle.lt_model.specs.Cones.{Row, Verdict, wall, combination, AreBelow, sum_of_walls, wall_or_none}
 use Rattle.lt_model.proofs.Walk.{plus-nil}
 use Rattle.lt_model.proofs.Squares.{length-plus}
 use Rattle.lt_tableau.proofs.Sums.{lookup_none, lookup_is, lookup_plus}
-use Rattle.lt_cone.specs.Rows.{IsWallOf}
+use Rattle.std.specs.Int.{◌∣◌}
+use Rattle.std.proofs.lemmas.Nat.Gcd.{le_of_dvd}
+use Rattle.lt_num.specs.Divisors.{DividesEach, IsGcdOf}
 
 zeros_last : (n : ℕ) → zeros (suc n) ≡ zeros n ++ pos 0 ∷ []
 zeros_last zero = refl
@@ -36,8 +37,10 @@ add_step old xs ys i v h s d r e = record {
   where
     own : lookup (set xs i v) i ≡ v
     own = lookup_is (set xs i v) i ∙ get_or-set_same xs i v (pos 0) h
+
     other : (q : ℕ) → (q ≡ i → ⊥) → lookup (set xs i v) q ≡ lookup xs q
     other q n = lookup_is (set xs i v) q ∙ get_or-set_other xs i q v (pos 0) n ∙ sym (lookup_is xs q)
+
     pick : (q : ℕ) → q < i + 1 → Dec (q ≡ i) → lookup (set xs i v) q ≡ lookup old q +ℤ lookup ys q
     pick q l (yes z) = rw z (own ∙ e)
     pick q l (no z) = other q z ∙ d q (omega arith)
@@ -82,3 +85,35 @@ long_sum n (r ∷ rows) h = with_row r.verdict refl (long_sum n rows (λ k s w l
     with_row (combination f ts) e s = rw e s
     with_row (wall w) e (inl s) = let l = h 0 r w (omega arith) e in inl (rw e (length-plus w (sum_of_walls rows) (l ∙ sym s) ∙ l))
     with_row (wall w) e (inr s) = let l = h 0 r w (omega arith) e in inl (rw (e, s, plus-nil w) l)
+
+-- ---- the greatest common divisor of numbers below 2^92
+divides_at : (g : ℕ) (xs : List ℤ) (q : ℕ) → lookup xs q ≢ pos 0 → DividesEach g xs → g ∣ nat_abs (lookup xs q)
+divides_at g [] q h d = absurd (h (lookup_none q))
+divides_at g (x ∷ xs) zero h d = d.0
+divides_at g (x ∷ xs) (suc q) h d = divides_at g xs q h d.1
+
+pub below_at : (n : ℕ) → 0 < n → (ys : List ℤ) → AreBelow n ys → (q : ℕ) → nat_abs (lookup ys q) < n
+below_at n p ys h q = pick (dec_le (length ys) q)
+  where
+    pick : Dec (length ys ≤ q) → nat_abs (lookup ys q) < n
+    pick (yes l) = rw (past ys q l) (omega arith)
+    pick (no l) = rw (lookup_is ys q) (h q (pos 0) (omega arith))
+
+pub not_large : (xs : List ℤ) (q : ℕ) → lookup xs q ≢ pos 0 → AreBelow (2 ^ 92) xs → IsGcdOf xs (2 ^ 127) → ⊥
+not_large xs q h l g =
+    let s = below_at (2 ^ 92) (omega arith) xs l q in
+    let some : 0 < nat_abs (lookup xs q) = omega (arith, ints, h) in
+    let d : 2 ^ 127 ≤ nat_abs (lookup xs q) = le_of_dvd some (divides_at (2 ^ 127) xs q h g.divides) in
+    absurd (omega arith)
+
+-- numbers one by one
+pub below_from : (n : ℕ) (xs : List ℤ) → ((q : ℕ) → nat_abs (lookup xs q) < n) → AreBelow n xs
+below_from n [] h k x l = absurd (omega arith)
+below_from n (y ∷ xs) h zero x l = h 0
+below_from n (y ∷ xs) h (suc k) x l = below_from n xs (λ q. h (suc q)) k x (omega arith)
+
+pub no_more : (rows : List Row) (k q : ℕ) → length rows ≤ k → lookup (sum_of_walls (drop k rows)) q ≡ pos 0
+no_more [] zero q h = lookup_none q
+no_more [] (suc k) q h = lookup_none q
+no_more (r ∷ rows) zero q h = absurd (omega arith)
+no_more (r ∷ rows) (suc k) q h = no_more rows k q (omega arith)

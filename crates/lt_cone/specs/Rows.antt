@@ -1,7 +1,7 @@
 -- The rows of a cone.
-use Rattle.std.specs.Prelude.{ℕ, ℤ, ◌≡◌, ◌<◌, ◌^◌, List, length, get_or}
+use Rattle.std.specs.Prelude.{ℕ, ℤ, ◌≡◌, ◌^◌, List, length}
 use Rattle.lt_model.specs.Forms.{numbers_of_form}
-use Rattle.lt_model.specs.Cones.{Row, Verdict, wall, combination, AreBelow, IsRightVerdict, wall_or_none}
+use Rattle.lt_model.specs.Cones.{Row, Verdict, wall, combination, AreBelow, IsRightVerdict}
 
 -- the row's verdict is right
 abbrev pub IsRightRow : ℕ → List (List ℤ) → ℕ → Row → Type 0

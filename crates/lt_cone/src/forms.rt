@@ -5,7 +5,7 @@ ghost use Rattle.std.specs.List.{All};
 ghost use Rattle.lt_model.specs.Padded.{lookup};
 ghost use Rattle.lt_model.specs.Vectors.{zeros};
 ghost use Rattle.lt_model.specs.Forms.{numbers_of_form};
-ghost use Rattle.lt_model.specs.Cones.{sum_of_walls};
+ghost use Rattle.lt_model.specs.Cones.{AreBelow, sum_of_walls};
 ghost use Rattle.lt_lp.specs.Reduced.{IsReduced};
 ghost use Rattle.lt_cone.specs.Rows.{IsWallOf};
 
@@ -47,9 +47,9 @@ fn sum_of(rows: &[Row], d: u8, count: usize) -> ArrayVec<i128, 21>
     requires few_numbers { count ≤ 21 }
     requires few { length rows.now ≤ 2 ^ 29 }
     requires walls { All (λ r. IsWallOf d r.verdict) rows.now }
-    ensures length { length result.items ≡ count }
-    ensures sums { (q : ℕ) → lookup result.items q ≡ lookup (sum_of_walls rows.now) q }
-    ensures small { (q : ℕ) → nat_abs (lookup result.items q) < 2 ^ 92 }
+    requires long { length (sum_of_walls rows.now) ≡ count }
+    ensures value { result.items ≡ sum_of_walls rows.now }
+    ensures below { AreBelow (2 ^ 92) result.items }
 {
     let mut sums = zeros_of(count);
     for k in 0..rows.len() {
@@ -73,8 +73,19 @@ pub fn form_of(rows: &[Row], d: u8) -> Form
     ensures { IsReduced (sum_of_walls rows.now) result }
 {
     let mut sums = sum_of(rows, d, numbers_of(d));
-    match primitive(sums.as_mut_slice()) {
-        Ok(_) => Form::of(d, sums.as_slice()),
+    reduce(sums.as_mut_slice());
+    Form::of(d, sums.as_slice())
+}
+
+/// Divides numbers, not all 0, by their greatest common divisor.
+fn reduce(numbers: &mut [i128])
+    requires some { (q : ℕ) × (lookup numbers.now q ≢ pos 0) }
+    requires below { AreBelow (2 ^ 92) numbers.now }
+    ensures reduced { IsReduced numbers.old numbers.new }
+    ensures below { AreBelow (2 ^ 92) numbers.new }
+{
+    match primitive(numbers) {
+        Ok(_) => {}
         Err(_) => unreachable!(),
     }
 }

@@ -1,13 +1,11 @@
 -- Words have a fault at one place at most, and are one command at most.
-use Rattle.std.proofs.Common.{◌≡◌, ℕ, ◌+◌, ◌<◌, ◌≤◌, List, ◌++◌, take, drop, sym, ap, ap₂, subst, ◌∙◌, arith, append_assoc, inl, inr}
+use Rattle.std.proofs.Common.{◌≡◌, ℕ, ◌+◌, ◌<◌, ◌≤◌, List, ◌++◌, take, drop, sym, ap, subst, ◌∙◌, arith, append_assoc}
 use Rattle.std.proofs.lemmas.List.{take-append-drop, take-take}
 use Rattle.std.proofs.lemmas.Fmt.{decimal_injective}
 use Rattle.std.specs.Fmt.{decimal}
 use Rattle.lt_words.specs.declared.words.Command.{Command}
-use Rattle.lt_words.specs.declared.words.Command.TheVariants.{Principal, Summary, Run}
+use Rattle.lt_words.specs.declared.words.Command.TheVariants.{Principal, Summary}
 use Rattle.lt_words.specs.Grammar.{IsDimension, InRange, Spells, Begins, FaultAt}
-use Rattle.lt_model.specs.Limits.{step_limit}
-use Rattle.lt_words.proofs.Faults.{limit_is}
 
 -- fewer words of a front begin a command too
 begins_before : (ws : List (List ℕ)) (p q : ℕ) → p ≤ q → Begins (take q ws) → Begins (take p ws)
@@ -26,32 +24,9 @@ one_place ws p q f h = omega (arith, no_later_fault ws p q f h, no_later_fault w
 same_dimension : (d d' : ℕ) → IsDimension d → IsDimension d' → decimal d ≡ decimal d' → d ≡ d'
 same_dimension d d' r r' e = decimal_injective d d' (omega (arith, r.1)) (omega (arith, r'.1)) e
 
-same_steps : (d b b' : ℕ) → IsDimension d → b ≤ step_limit d → b' ≤ step_limit d → decimal b ≡ decimal b' → b ≡ b'
-same_steps d b b' r h h' e = decimal_injective b b' (omega (arith, limit_is d r, h)) (omega (arith, limit_is d r, h')) e
-
 -- words spell one command at most
 pub one_command : (c c' : Command) (ws : List (List ℕ)) → InRange c → InRange c' → Spells c ws → Spells c' ws → c ≡ c'
 one_command (Principal d) (Principal d') ws r r' e f = ap (λ n. Principal n) (same_dimension d d' r r' (cc))
 one_command (Principal d) (Summary d') ws r r' e f = absurd (cc)
-one_command (Principal d) (Run d' b) ws r r' e (inl f) = let g = f.1 in absurd (cc)
-one_command (Principal d) (Run d' b) ws r r' e (inr f) = absurd (cc)
 one_command (Summary d) (Principal d') ws r r' e f = absurd (cc)
 one_command (Summary d) (Summary d') ws r r' e f = ap (λ n. Summary n) (same_dimension d d' r r' (cc))
-one_command (Summary d) (Run d' b) ws r r' e (inl f) = let g = f.1 in absurd (cc)
-one_command (Summary d) (Run d' b) ws r r' e (inr f) = absurd (cc)
-one_command (Run d b) (Principal d') ws r r' (inl e) f = let g = e.1 in absurd (cc)
-one_command (Run d b) (Principal d') ws r r' (inr e) f = absurd (cc)
-one_command (Run d b) (Summary d') ws r r' (inl e) f = let g = e.1 in absurd (cc)
-one_command (Run d b) (Summary d') ws r r' (inr e) f = absurd (cc)
-one_command (Run d b) (Run d' b') ws r r' (inl e) (inl f) =
-    let g = e.1 in
-    let h = f.1 in
-    let same : d ≡ d' = same_dimension d d' r.0 r'.0 (cc) in
-    let steps : b ≡ b' = e.0 ∙ ap step_limit same ∙ sym f.0 in
-    ap₂ (λ (n m : ℕ). Run n m) same steps
-one_command (Run d b) (Run d' b') ws r r' (inl e) (inr f) = let g = e.1 in absurd (cc)
-one_command (Run d b) (Run d' b') ws r r' (inr e) (inl f) = let g = f.1 in absurd (cc)
-one_command (Run d b) (Run d' b') ws r r' (inr e) (inr f) =
-    let same : d ≡ d' = same_dimension d d' r.0 r'.0 (cc) in
-    let few : b' ≤ step_limit d = subst (λ (n : ℕ). b' ≤ step_limit n) (sym same) r'.1 in
-    ap₂ (λ (n m : ℕ). Run n m) same (same_steps d b b' r.0 r.1 few (cc))

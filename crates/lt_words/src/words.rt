@@ -1,13 +1,9 @@
-ghost use Rattle.std.specs.Prelude.{◌≡◌, ◌<◌, ◌≤◌, [], ◌∷◌, List, ℕ, length, get_or, codes, IsTrue, ◌↔◌, IfOk, IfErr, IfSome, IfNone};
+ghost use Rattle.std.specs.Prelude.{◌≡◌, ◌<◌, [], ◌∷◌, List, ℕ, length, get_or, codes, IsTrue, ◌↔◌, IfOk, IfErr, IfSome, IfNone};
 ghost use Rattle.std.specs.Fmt.{decimal};
 ghost use Rattle.lt_words.specs.Grammar.{texts, IsDimension, InRange, Spells, FaultAt, HasFront, place_of, kind_word};
 ghost use Rattle.lt_words.specs.Laws.{EveryFaultHasOnePlace, NoCommandHasAFault, WordsSpellOneCommand};
 
-use itoa::Buffer;
 use thiserror::Error;
-
-/// The greatest step limit, which a run has where its words give none.
-pub const MOST_STEPS: u64 = 100_000;
 
 /// What the program is asked to do.
 #[derive(Clone, Copy, Debug, PartialEq, Eq, Drop)]
@@ -16,9 +12,6 @@ pub enum Command {
     Principal { d: u8 },
     /// `summary D`: print the counts of the starting atlas of dimension `d`, 2 to 5.
     Summary { d: u8 },
-    /// `run D` or `run D --steps B`: enumerate the types of dimension `d`, 2 to 5, through the first `steps` positions of the
-    /// queue, at most 100,000, and write the atlas.
-    Run { d: u8, steps: u64 },
 }
 
 /// Why words are no command.
@@ -35,7 +28,6 @@ pub enum WordsError {
 enum Kind {
     Principal,
     Summary,
-    Run,
 }
 
 fn word_at<'a>(words: &[&'a str], i: usize) -> &'a str
@@ -54,17 +46,9 @@ fn kind_of(word: &str) -> Option<Kind>
         Some(Kind::Principal)
     } else if word == "summary" {
         Some(Kind::Summary)
-    } else if word == "run" {
-        Some(Kind::Run)
     } else {
         None
     }
-}
-
-fn is_steps(word: &str) -> bool
-    ensures { IsTrue result ↔ (word.now ≡ codes "--steps") }
-{
-    word == "--steps"
 }
 
 /// The dimension that a word spells.
@@ -78,33 +62,8 @@ fn dimension_of(word: &str) -> Option<u8>
     }
 }
 
-/// Whether the word spells the number.
-fn is_spelling(word: &str, number: u64) -> bool
-    ensures { IsTrue result ↔ (word.now ≡ decimal number) }
-{
-    let mut buffer = Buffer::new();
-    word == buffer.format(number)
-}
-
-/// The step limit that a word spells.
-fn steps_of(word: &str) -> Option<u64>
-    ensures found { IfSome result (λ steps. (steps ≤ 100000) × (word.now ≡ decimal steps)) }
-    ensures none { IfNone result ((steps : ℕ) → steps ≤ 100000 → word.now ≡ decimal steps → ⊥) }
-{
-    match word.parse::<u64>() {
-        Ok(steps) => {
-            if steps <= MOST_STEPS && is_spelling(word, steps) {
-                Some(steps)
-            } else {
-                None
-            }
-        }
-        Err(_) => None,
-    }
-}
-
-/// The command of a kind and a dimension, with nothing behind them.
-fn short_command(kind: Kind, d: u8) -> Command
+/// The command of a kind and a dimension.
+fn command_of(kind: Kind, d: u8) -> Command
     requires { IsDimension d }
     ensures range { InRange result }
     ensures words { Spells result (kind_word kind ∷ decimal d ∷ []) }
@@ -112,53 +71,6 @@ fn short_command(kind: Kind, d: u8) -> Command
     match kind {
         Kind::Principal => Command::Principal { d },
         Kind::Summary => Command::Summary { d },
-        Kind::Run => Command::Run {
-            d,
-            steps: MOST_STEPS,
-        },
-    }
-}
-
-/// The command of `run D --steps`, with the step limit to come.
-fn read_steps(words: &[&str], d: u8) -> Result<Command, WordsError>
-    requires dimension { IsDimension d }
-    requires front { HasFront (texts words.now) (codes "run" ∷ decimal d ∷ codes "--steps" ∷ []) }
-    ensures command { IfOk result (λ c. InRange c × Spells c (texts words.now)) }
-    ensures fault { IfErr result (λ e. FaultAt (texts words.now) (place_of e)) }
-{
-    if words.len() == 3 {
-        return Err(WordsError::Fault { place: 3 });
-    }
-    match steps_of(word_at(words, 3)) {
-        None => Err(WordsError::Fault { place: 3 }),
-        Some(steps) => {
-            if words.len() == 4 {
-                Ok(Command::Run { d, steps })
-            } else {
-                Err(WordsError::Fault { place: 4 })
-            }
-        }
-    }
-}
-
-/// The command of a kind and a dimension, with a word more behind them.
-fn read_option(words: &[&str], kind: Kind, d: u8) -> Result<Command, WordsError>
-    requires dimension { IsDimension d }
-    requires front { HasFront (texts words.now) (kind_word kind ∷ decimal d ∷ []) }
-    requires more { 2 < length words.now }
-    ensures command { IfOk result (λ c. InRange c × Spells c (texts words.now)) }
-    ensures fault { IfErr result (λ e. FaultAt (texts words.now) (place_of e)) }
-{
-    match kind {
-        Kind::Principal => Err(WordsError::Fault { place: 2 }),
-        Kind::Summary => Err(WordsError::Fault { place: 2 }),
-        Kind::Run => {
-            if is_steps(word_at(words, 2)) {
-                read_steps(words, d)
-            } else {
-                Err(WordsError::Fault { place: 2 })
-            }
-        }
     }
 }
 
@@ -175,9 +87,9 @@ fn read_dimension(words: &[&str], kind: Kind) -> Result<Command, WordsError>
         None => Err(WordsError::Fault { place: 1 }),
         Some(d) => {
             if words.len() == 2 {
-                Ok(short_command(kind, d))
+                Ok(command_of(kind, d))
             } else {
-                read_option(words, kind, d)
+                Err(WordsError::Fault { place: 2 })
             }
         }
     }

@@ -1,5 +1,4 @@
-use Rattle.std.proofs.Common.{arith, ◌≡◌, ◌∙◌, sym, ap, ◌≤◌, ◌<◌, ℤ, length}
-use Rattle.lt_model.specs.Vectors.{zeros}
+use Rattle.std.proofs.Common.{arith, ◌≡◌, ◌∙◌, sym, ap, ℤ, length}
 use Rattle.lt_model.proofs.Opposite.{length-zeros}
 use Rattle.lt_cone.proofs.WallSums.{zeros_more}
 use Rattle.lt_cone.proofs.forms.zeros_of.Goals as goal
