@@ -4,7 +4,7 @@ use Rattle.std.specs.Io.KnownBytes.{Appends}
 use Rattle.std.proofs.Math.Seq.{take-append_seam}
 use Rattle.std.proofs.lemmas.List.{append-nil}
 use Rattle.lt_io.specs.Bytes.{AppendsFront, Wrote}
-use Rattle.lt_io.proofs.Compose.{nothing_appended, appended_then, appended_then_front, front_of_more}
+use Rattle.lt_io.proofs.Compose.{nothing_appended, appended_then, appended_then_front, front_of_more, wrote_front, wrote_then}
 use Rattle.lt_text.specs.Gathered.{Gains, Gathered}
 
 -- nothing was written
@@ -46,10 +46,29 @@ gathered_past a b c p q (Ok v) x is m w = record { whole = (p ++ x, appended_the
 gathered_past a b c p q (Err d) x is m w = record { whole = tt; front = appended_then_front a b c p x m w.front }
 
 -- at the end the bytes that wait are given to the sink
-pub wrote_at_end : {T E : Type 0} (a b c : Option (List ℕ)) (q : List ℕ) (r : Result T E) (x : List ℕ) → Gains a b [] q x → Wrote b c r q → Wrote a c r x
-wrote_at_end a b c q (Ok v) x m w = record { whole = subst (λ l. Appends a c l) m.2 (appended_then a b c m.0 q m.1 w.whole); front = tt }
-wrote_at_end a b c q (Err d) x m w = record { whole = tt; front = subst (λ l. AppendsFront a c l) m.2 (appended_then_front a b c m.0 q m.1 w.front) }
+pub wrote_at_end : {T E : Type 0} (a b c : Option (List ℕ)) (p q : List ℕ) (r : Result T E) (x : List ℕ) → p ≡ [] → Gains a b p q x → Wrote b c r q → Wrote a c r x
+wrote_at_end a b c p q (Ok v) x is m w = record { whole = subst (λ l. Appends a c l) (m.2 ∙ ap (λ l. l ++ x) is) (appended_then a b c m.0 q m.1 w.whole); front = tt }
+wrote_at_end a b c p q (Err d) x is m w = record { whole = tt; front = subst (λ l. AppendsFront a c l) (m.2 ∙ ap (λ l. l ++ x) is) (appended_then_front a b c m.0 q m.1 w.front) }
+
+-- a front was written, and nothing had waited
+pub wrote_no_end : {T E : Type 0} (a b : Option (List ℕ)) (p : List ℕ) (r : Result T E) (e : E) (x : List ℕ) → r ≡ Err e → p ≡ [] → AppendsFront a b (p ++ x) → Wrote a b r x
+wrote_no_end a b p (Ok v) e x o is n = absurd cc
+wrote_no_end a b p (Err d) e x o is n = record { whole = tt; front = subst (λ l. AppendsFront a b (l ++ x)) is n }
 
 -- bytes that were written to a block are taken back
 pub taken_back : (p q s text : List ℕ) (n : ℕ) → AppendsFront (Some p) (Some q) text → n ≡ length p → s ≡ take n q → s ≡ p
 taken_back p q s text n f is cut = cut ∙ ap (λ k. take k q) is ∙ ap (λ l. take (length p) l) f.3 ∙ take-append_seam p f.0
+
+-- two parts in turn, where what was written equals them
+
+pub two_fronts : {T E : Type 0} (a b : Option (List ℕ)) (p q : List ℕ) (r : Result T E) (e : E) (u x y : List ℕ) → r ≡ Err e → u ≡ x → AppendsFront a b (p ++ u) → Gathered a b p q r (x ++ y)
+two_fronts a b p q r e u x y o is n = gathered_front a b p q r e (x ++ y) o (front_of_all a b p x y (subst (λ l. AppendsFront a b (p ++ l)) is n))
+
+pub two_parts : {T E : Type 0} (a b c : Option (List ℕ)) (p q s : List ℕ) (r : Result T E) (u v x y : List ℕ) → u ≡ x → v ≡ y → Gains a b p q u → Gathered b c q s r v → Gathered a c p s r (x ++ y)
+two_parts a b c p q s r u v x y is so m n = gathered_then a b c p q s r x y (subst (λ l. Gains a b p q l) is m) (subst (λ l. Gathered b c q s r l) so n)
+
+pub first_front : {T E : Type 0} (a b : Option (List ℕ)) (r : Result T E) (e : E) (u x y : List ℕ) → r ≡ Err e → u ≡ x → AppendsFront a b u → Wrote a b r (x ++ y)
+first_front a b r e u x y o is n = wrote_front a b r e (x ++ y) o (front_of_more a b x y (subst (λ l. AppendsFront a b l) is n))
+
+pub both_written : {T E : Type 0} (a b c : Option (List ℕ)) (r : Result T E) (u v x y : List ℕ) → u ≡ x → v ≡ y → Appends a b u → Wrote b c r v → Wrote a c r (x ++ y)
+both_written a b c r u v x y is so m n = wrote_then a b c r x y (subst (λ l. Appends a b l) is m) (subst (λ l. Wrote b c r l) so n)

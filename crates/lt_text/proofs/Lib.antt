@@ -1,2 +1,5 @@
 pub mod Composed
+pub mod EachEntry
 pub mod Lists
+pub mod Loops
+pub mod Squares

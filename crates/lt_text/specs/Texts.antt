@@ -36,18 +36,25 @@ start word zs = word ++ behind_spaces zs
 abbrev pub term_numbers : List (ℕ × ℤ) → List ℤ
 term_numbers terms = flat_map (λ t. pos t.0 ∷ t.1 ∷ []) terms
 
+-- the scale of a combination, the number of its terms, and the terms
+abbrev pub combination_part : ℤ → List (ℕ × ℤ) → List ℕ
+combination_part factor terms = start (codes " scale") (factor ∷ []) ++ line (codes " terms") (pos (length terms) ∷ term_numbers terms)
+
 -- the line of a normal with its verdict
 abbrev pub verdict_line : List ℤ → Verdict → List ℕ
 verdict_line normal (wall form) = start (codes "facet") normal ++ line (codes " wall") form
-verdict_line normal (combination factor terms) =
-    start (codes "redundant") normal ++ start (codes " scale") (factor ∷ []) ++ line (codes " terms") (pos (length terms) ∷ term_numbers terms)
+verdict_line normal (combination factor terms) = start (codes "redundant") normal ++ combination_part factor terms
 
 abbrev pub row_line : Row → List ℕ
 row_line r = verdict_line r.normal r.verdict
 
--- the number of regulators, a line for each, and the form
+-- the number of regulators, and a line for each
+abbrev pub rows_text : List Row → List ℕ
+rows_text rows = line (codes "regulators") (pos (length rows) ∷ []) ++ flat_map row_line rows
+
+-- the rows and the form
 abbrev pub cone_text : Cone → List ℕ
-cone_text c = line (codes "regulators") (pos (length c.rows) ∷ []) ++ flat_map row_line c.rows ++ line (codes "form") c.form
+cone_text c = rows_text c.rows ++ line (codes "form") c.form
 
 -- ---- marks
 
@@ -64,10 +71,17 @@ marks_text ms = line (codes "marks") (pos (length ms) ∷ []) ++ flat_map mark_l
 
 -- ---- entries
 
+abbrev pub from_part : ℕ → ℕ → List ℕ
+from_part entry facet = line (codes " from") (pos entry ∷ pos facet ∷ [])
+
+-- from which entry and facet an entry came
+abbrev pub origin_part : Option (ℕ × ℕ) → List ℕ
+origin_part None = line (codes " start") []
+origin_part (Some p) = from_part p.0 p.1
+
 -- the line of the entry with the number k
 abbrev pub origin_line : ℕ → Option (ℕ × ℕ) → List ℕ
-origin_line k None = start (codes "entry") (pos k ∷ []) ++ line (codes " start") []
-origin_line k (Some p) = start (codes "entry") (pos k ∷ []) ++ line (codes " from") (pos p.0 ∷ pos p.1 ∷ [])
+origin_line k from = start (codes "entry") (pos k ∷ []) ++ origin_part from
 
 -- the entry with the number k, and the marks of its facets
 abbrev pub entry_text : ℕ → Entry → List Mark → List ℕ

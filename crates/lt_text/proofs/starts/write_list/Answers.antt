@@ -16,4 +16,4 @@ returns-in_err-write_counted-clause-bytes g c =
 pub returns-clause-bytes : goal.returns-clause-bytes
 returns-clause-bytes g c =
     let all = wrote_then _ _ _ _ (start c.args.word.now (pos c.args.count ∷ [])) (line [] c.args.numbers.now) c.in_ok-write_counted.ensures.bytes.whole c.write_line.ensures.bytes in
-    subst (λ (l : List ℕ). Wrote (g.K.Sink.held c.args.out.now) (g.K.Sink.held c.write_line.new.out) c.write_line.result l) (started_list c.args.word.now (pos c.args.count) c.args.numbers.now) all
+    subst (λ (l : List ℕ). Wrote (g.K.Sink.held c.args.out.now) (g.K.Sink.held c.write_line.new.sink) c.write_line.result l) (started_list c.args.word.now (pos c.args.count) c.args.numbers.now) all
