@@ -1,5 +1,5 @@
 -- Bytes by way of a block, and then others.
-use Rattle.std.proofs.Common.{Result, Ok, Err, ◌≡◌, ℕ, List, [], ◌++◌, take, length, sym, ap, subst, refl, ◌∙◌, append_assoc, Option, Some, None}
+use Rattle.std.proofs.Common.{Result, Ok, Err, ◌≡◌, ℕ, List, [], ◌++◌, take, length, sym, ap, subst, ◌∙◌, append_assoc, Option, Some}
 use Rattle.std.specs.Io.KnownBytes.{Appends}
 use Rattle.std.proofs.Math.Seq.{take-append_seam}
 use Rattle.std.proofs.lemmas.List.{append-nil}

@@ -1,5 +1,5 @@
 -- Entries that are written one after another.
-use Rattle.std.proofs.Common.{◌≡◌, ℕ, suc, ◌+◌, ◌<◌, List, [], ◌∷◌, ◌++◌, take, drop, length, length-take, get_or, arith, refl, sym, ap, subst, ◌∙◌, append_assoc, take-append-drop, drop-cons, Option}
+use Rattle.std.proofs.Common.{◌≡◌, ℕ, suc, ◌+◌, ◌<◌, List, [], ◌∷◌, ◌++◌, take, drop, length, length-take, get_or, arith, sym, ap, subst, ◌∙◌, append_assoc, take-append-drop, drop-cons, Option}
 use Rattle.std.proofs.lemmas.List.{append-nil, take_more}
 use Rattle.lt_io.specs.Bytes.{AppendsFront}
 use Rattle.lt_model.specs.Atlases.{Mark, Entry}
@@ -30,17 +30,17 @@ front_in_entries mss a b c p q es i d e ms lt is its m n =
     let after = entries_text mss (suc i) (drop (suc i) es) in
     let here = entry_text i e ms in
     subst (λ l. AppendsFront a c (p ++ l)) (append_assoc before here after ∙ ap (λ x. before ++ (entry_text i x ms ++ after)) is ∙ ap (λ x. before ++ (entry_text i (get_or es i d) x ++ after)) its ∙ entries_at mss es i d lt)
-        (front_of_all a c p (before ++ here) after (gained_then_front a b c p q before here m n))
+    (front_of_all a c p (before ++ here) after (gained_then_front a b c p q before here m n))
 
 pub one_entry_more : (mss : List (List Mark)) (a b c : Option (List ℕ)) (p q r : List ℕ) (es : List Entry) (i : ℕ) (d e : Entry) (ms : List Mark) → i < length es → e ≡ get_or es i d → ms ≡ get_or mss i [] → Gains a b p q (entries_text mss 0 (take i es)) → Gains b c q r (entry_text i e ms) → Gains a c p r (entries_text mss 0 (take (i + 1) es))
 one_entry_more mss a b c p q r es i d e ms lt is its m n =
     let before = entries_text mss 0 (take i es) in
     let long : 0 + length (take i es) ≡ i = omega (arith, length-take i es) in
     subst (λ l. Gains a c p r l)
-        (ap (λ x. before ++ entry_text i x ms) is
-        ∙ ap (λ x. before ++ entry_text i (get_or es i d) x) its
-        ∙ ap (λ l. before ++ l) (sym (append-nil (entry_text i (get_or es i d) (get_or mss i []))))
-        ∙ ap (λ k. before ++ entries_text mss k (get_or es i d ∷ [])) (sym long)
-        ∙ sym (entries-append mss 0 (take i es) (get_or es i d ∷ []))
-        ∙ ap (λ l. entries_text mss 0 l) (sym (take_more es i d lt)))
-        (gained_then a b c p q r before (entry_text i e ms) m n)
+    (ap (λ x. before ++ entry_text i x ms) is
+    ∙ ap (λ x. before ++ entry_text i (get_or es i d) x) its
+    ∙ ap (λ l. before ++ l) (sym (append-nil (entry_text i (get_or es i d) (get_or mss i []))))
+    ∙ ap (λ k. before ++ entries_text mss k (get_or es i d ∷ [])) (sym long)
+    ∙ sym (entries-append mss 0 (take i es) (get_or es i d ∷ []))
+    ∙ ap (λ l. entries_text mss 0 l) (sym (take_more es i d lt)))
+    (gained_then a b c p q r before (entry_text i e ms) m n)

@@ -1,5 +1,5 @@
 -- The rows of a square matrix that is written row by row.
-use Rattle.std.proofs.Common.{◌≡◌, ℕ, zero, suc, ◌*◌, ◌≤◌, ℤ, List, length, arith, refl, ap, sym, ◌∙◌}
+use Rattle.std.proofs.Common.{◌≡◌, ℕ, zero, suc, ◌*◌, ◌≤◌, ℤ, List, length, arith, refl, ap, ◌∙◌}
 use Rattle.lt_model.specs.Flat.{rows, flat}
 use Rattle.lt_model.proofs.Flat.{flat-rows}
 use Rattle.lt_core.specs.Marks.{side, matrix_rows}

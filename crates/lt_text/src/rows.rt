@@ -70,11 +70,7 @@ fn write_redundant<K: Sink>(
 }
 
 /// Writes the line of a normal with its verdict.
-fn write_verdict<K: Sink>(
-    out: &mut K,
-    normal: &Normal,
-    verdict: &Verdict,
-) -> Result<(), Failed>
+fn write_verdict<K: Sink>(out: &mut K, normal: &Normal, verdict: &Verdict) -> Result<(), Failed>
     ensures bytes { Wrote (K.held out.old) (K.held out.new) result (verdict_line normal.now (verdict_of verdict.now)) }
     ensures cause { HasCause (K.faults out.old) (K.faults out.new) result }
 {

@@ -1,4 +1,4 @@
-use Rattle.std.proofs.Common.{[], ◌∷◌, ◌++◌, length, refl}
+use Rattle.std.proofs.Common.{[], ◌++◌, length, refl}
 use Rattle.std.specs.Prelude.{codes}
 use Rattle.std.proofs.lemmas.Result.{err_from_is_err_and}
 use Rattle.lt_lines.specs.Lines.{line}
@@ -25,4 +25,4 @@ returns-clause-bytes g c =
     let head = head_text c.args.atlas.now.dimension (length c.args.atlas.now.entries) in
     let entries = entries_text c.args.atlas.now.marks 0 c.args.atlas.now.entries in
     two_parts _ _ _ _ _ _ _ _ _ (head ++ entries) (line (codes "end") []) refl refl
-        (gained_then _ _ _ _ _ _ head entries c.in_ok-gather_head.ensures.bytes.whole c.in_ok-gather_entries.ensures.bytes.whole) c.gather_line.ensures.bytes
+    (gained_then _ _ _ _ _ _ head entries c.in_ok-gather_head.ensures.bytes.whole c.in_ok-gather_entries.ensures.bytes.whole) c.gather_line.ensures.bytes

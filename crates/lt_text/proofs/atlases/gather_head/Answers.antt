@@ -2,7 +2,7 @@ use Rattle.std.proofs.Common.{ℕ, pos, [], ◌∷◌, ◌++◌, length, ap, ref
 use Rattle.std.specs.Prelude.{codes}
 use Rattle.std.proofs.lemmas.Result.{err_from_is_err_and}
 use Rattle.lt_lines.specs.Lines.{line}
-use Rattle.lt_text.proofs.Composed.{front_of_all, gathered_front, gained_then, gained_then_front, two_fronts, two_parts}
+use Rattle.lt_text.proofs.Composed.{front_of_all, gained_then, gained_then_front, two_fronts, two_parts}
 use Rattle.lt_text.proofs.atlases.gather_head.Goals as goal
 
 pub returns-in_err-gather_count-clause-bytes : goal.returns-in_err-gather_count-clause-bytes
@@ -27,4 +27,4 @@ returns-clause-bytes g c =
     let dimension = line (codes "dimension") (pos c.args.atlas.now.dimension ∷ []) in
     let entries = line (codes "entries") (pos (length c.args.atlas.now.entries) ∷ []) in
     two_parts _ _ _ _ _ _ _ _ _ (version ++ dimension) entries (ap (λ (n : ℕ). version ++ line (codes "dimension") (pos n ∷ [])) c.dimension.ensures) (ap (λ (n : ℕ). line (codes "entries") (pos n ∷ [])) c.entries.ensures)
-        (gained_then _ _ _ _ _ _ version (line (codes "dimension") (pos c.dimension.result ∷ [])) c.in_ok-gather_count.ensures.bytes.whole c.in_ok-gather_count-2.ensures.bytes.whole) c.gather_count-3.ensures.bytes
+    (gained_then _ _ _ _ _ _ version (line (codes "dimension") (pos c.dimension.result ∷ [])) c.in_ok-gather_count.ensures.bytes.whole c.in_ok-gather_count-2.ensures.bytes.whole) c.gather_count-3.ensures.bytes

@@ -39,4 +39,4 @@ returns-clause-bytes g c =
     let cone = cone_text c.args.entry.now.cone in
     let marks = marks_text (map mark_of c.args.marks.now) in
     two_parts _ _ _ _ _ _ _ _ _ (origin ++ triangulation ++ cone) marks refl refl
-        (gained_then _ _ _ _ _ _ (origin ++ triangulation) cone (gained_then _ _ _ _ _ _ origin triangulation c.in_ok-gather.ensures.bytes.whole c.in_ok-gather_triangulation.ensures.bytes.whole) c.in_ok-gather_cone.ensures.bytes.whole) c.gather_marks.ensures.bytes
+    (gained_then _ _ _ _ _ _ (origin ++ triangulation) cone (gained_then _ _ _ _ _ _ origin triangulation c.in_ok-gather.ensures.bytes.whole c.in_ok-gather_triangulation.ensures.bytes.whole) c.in_ok-gather_cone.ensures.bytes.whole) c.gather_marks.ensures.bytes
