@@ -2,4 +2,5 @@ pub mod Composed
 pub mod EachEntry
 pub mod Lists
 pub mod Loops
+pub mod Spelt
 pub mod Squares

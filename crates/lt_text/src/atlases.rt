@@ -3,6 +3,7 @@
 ghost use Rattle.std.specs.Prelude.{length};
 ghost use Rattle.lt_io.specs.Causes.{HasCause};
 ghost use Rattle.lt_io.specs.Bytes.{Wrote};
+ghost use Rattle.lt_text.specs.Example.{ExampleIsSpelt};
 ghost use Rattle.lt_text.specs.Gathered.{Gathered};
 ghost use Rattle.lt_text.specs.Texts.{head_text, entries_text, atlas_text};
 
@@ -54,3 +55,8 @@ pub fn write_atlas<K: Sink>(atlas: &Atlas, out: &mut K) -> Result<(), Failed>
     gather_atlas(&mut block, out, atlas)?;
     block.pass_on(out)
 }
+
+/// A law, with nothing to run: how an atlas of dimension 2 is spelt.
+pub fn example_is_spelt()
+    ensures { ExampleIsSpelt }
+{}

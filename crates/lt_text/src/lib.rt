@@ -9,5 +9,5 @@ mod marks;
 mod rows;
 mod starts;
 
-pub use atlases::write_atlas;
+pub use atlases::{example_is_spelt, write_atlas};
 pub use classes::write_triangulation;
