@@ -124,13 +124,15 @@ module _ (d : ℕ) (t : List (List (List ℤ))) (c : Cone) (h : IsRightCone d t 
       let lc = count in
       let kn : k < length ns = (let z : k < length c.rows = is.within in omega arith) in
       let here : get_or ns k [] ≡ n = normal_at k is.within ∙ is.normal no_row in
-      let right : IsRightWall d ns k w = subst (λ (v : Verdict). IsRightVerdict d ns k v) (is.verdict no_row) (h.verdicts k no_row is.within) in
-      (w, record {
-        regulator = (h.regulators.members n).0 (contains_at ns k [] n kn here);
-        numbers = right.numbers;
-        zero_there = ap (λ m. dot m w) (sym here) ∙ right.zero_there;
-        others = λ m reg ne. other n k w kn here right m ne ((h.regulators.members m).1 reg)
-      })
+      let right : IsRightWall d ns k w = subst (λ (v : Verdict). IsRightVerdict d ns k v) (is.verdict no_row) (h.verdicts k no_row is.within) in (
+        w,
+        record {
+          regulator = (h.regulators.members n).0 (contains_at ns k [] n kn here);
+          numbers = right.numbers;
+          zero_there = ap (λ m. dot m w) (sym here) ∙ right.zero_there;
+          others = λ m reg ne. other n k w kn here right m ne ((h.regulators.members m).1 reg);
+        },
+      )
     where
       other : (n : List ℤ) (k : ℕ) (w : List ℤ) → k < length ns → get_or ns k [] ≡ n → IsRightWall d ns k w → (m : List ℤ) → m ≢ n → Contains ns m → pos 0 <ℤ dot m w
       other n k w kn here right m ne (i, hi, e) =
@@ -142,6 +144,7 @@ module _ (d : ℕ) (t : List (List (List ℤ))) (c : Cone) (h : IsRightCone d t 
     where
       g : ℕ → ℤ
       g i = dot w (get_or ns i [])
+
       each : (terms : List (ℕ × ℤ)) → IsRightCombination d ns k factor terms → AllByRecursion (λ i. pos 0 <ℤ dot w (get_or ns i [])) (places terms)
       each terms y =
           recursion_from_All (λ i. pos 0 <ℤ dot w (get_or ns i [])) (places terms) (λ j e hj. one (get_or (places terms) j e) (y.within j e hj) (y.other j e hj))
@@ -152,6 +155,7 @@ module _ (d : ℕ) (t : List (List (List ℤ))) (c : Cone) (h : IsRightCone d t 
               let reg : IsRegulator d t m = (h.regulators.members m).0 (contains_at ns i [] m hi refl) in
               let differs : m ≢ n = λ e. ne (one_place number_list_cmp number_list_cmp_total ns i k [] h.regulators.ascending hi kn (e ∙ sym here)) in
               subst (λ z. pos 0 <ℤ z) (dot_comm m w) (f.others m reg differs)
+
       sum_is : (terms : List (ℕ × ℤ)) → IsRightCombination d ns k factor terms → dot (coefficients terms) (map (λ i. dot w (get_or ns i [])) (places terms)) ≡ pos 0
       sum_is terms y =
           let zero_there : dot w (get_or ns k []) ≡ pos 0 = ap (dot w) here ∙ dot_comm w n ∙ f.zero_there in
@@ -161,6 +165,7 @@ module _ (d : ℕ) (t : List (List (List ℤ))) (c : Cone) (h : IsRightCone d t 
           ∙ dot-scale w factor (get_or ns k [])
           ∙ ap (λ z. factor *ℤ z) zero_there
           ∙ (omega (arith, ints))
+
       by_terms : (terms : List (ℕ × ℤ)) → IsRightCombination d ns k factor terms → ⊥
       by_terms [] y =
           let none : n ≡ [] = sym here ∙ scale_none factor (get_or ns k []) (sym y.sum) in
@@ -180,6 +185,7 @@ module _ (d : ℕ) (t : List (List (List ℤ))) (c : Cone) (h : IsRightCone d t 
       by_verdict k kn here (combination factor terms) e =
           let lc = count in
           absurd (no_combination n w f k kn here factor terms (subst (λ (v : Verdict). IsRightVerdict d ns k v) e (h.verdicts k no_row (omega arith))))
+
       at : Contains ns n → Contains (facets_of c.rows) n
       at (k, kn, e) = by_verdict k kn (get_or_default ns k [] n kn ∙ e) (get_or c.rows k no_row).verdict refl
 

@@ -31,7 +31,7 @@ cause_more d es all p t (cross k u) true x c =
       present = (let y : k < length all = c.present in omega arith);
       entry = ap (λ (e : Entry). e.triangulation) s ∙ c.entry;
       right = subst (IsRightEntry d) (sym s) c.right;
-      origin = ap (λ (e : Entry). e.origin) s ∙ c.origin
+      origin = ap (λ (e : Entry). e.origin) s ∙ c.origin;
     }
 cause_more d es all p t (cross k u) false x c = c
 cause_more d es all p t (wide s n) true x c = c
@@ -53,19 +53,18 @@ module _ (Beyond : Classes → List ℤ → Classes → Type 0) where
         position = h.position;
         across = h.across;
         is_across = h.is_across;
-        cause = cause_more b.dimension b.entries all (place_at b.queue e.position) h.across e.mark e.fresh x h.cause
+        cause = cause_more b.dimension b.entries all (place_at b.queue e.position) h.across e.mark e.fresh x h.cause;
       }
 
   -- the log of b is that of a and the event e more
   module _ (a b : Atlas) (e : Event) (log : b.log ≡ a.log ++ e ∷ []) (h : IsLegalLog Beyond a) (order : IsOrderly a)
-    (cuts : (i : ℕ) → i ≤ length a.log → cut b i ≡ cut a i)
-    (more : (c : Atlas) (x : Event) → IsLegal Beyond c a.entries x → IsLegal Beyond c b.entries x)
-    (last : IsLegal Beyond a b.entries e)
-    (places : (p : ℕ) → p < length a.queue → place_at b.queue p ≡ place_at a.queue p)
-    (here : mark_at b.marks (place_at a.queue e.position) ≡ e.mark)
-    (others : (q : ℕ × ℕ) → q.0 < length a.marks → (q ≡ place_at a.queue e.position → ⊥) → mark_at b.marks q ≡ mark_at a.marks q)
-    (fresh_ones : (p : ℕ) → length a.queue ≤ p → p < length b.queue → mark_at b.marks (place_at b.queue p) ≡ open_mark) where
-
+      (cuts : (i : ℕ) → i ≤ length a.log → cut b i ≡ cut a i)
+      (more : (c : Atlas) (x : Event) → IsLegal Beyond c a.entries x → IsLegal Beyond c b.entries x)
+      (last : IsLegal Beyond a b.entries e)
+      (places : (p : ℕ) → p < length a.queue → place_at b.queue p ≡ place_at a.queue p)
+      (here : mark_at b.marks (place_at a.queue e.position) ≡ e.mark)
+      (others : (q : ℕ × ℕ) → q.0 < length a.marks → (q ≡ place_at a.queue e.position → ⊥) → mark_at b.marks q ≡ mark_at a.marks q)
+      (fresh_ones : (p : ℕ) → length a.queue ≤ p → p < length b.queue → mark_at b.marks (place_at b.queue p) ≡ open_mark) where
     old_event : (i : ℕ) → i < length a.log → event_at b.log i ≡ event_at a.log i
     old_event i l = ap (λ x. event_at x i) log ∙ get_or_append_left a.log (e ∷ []) no_event i l
 
@@ -117,18 +116,18 @@ module _ (Beyond : Classes → List ℤ → Classes → Type 0) where
           ];
           rest = λ p l none. elim (cases_lt p (length a.queue)) [
             | inl x ↦
-              let k = long_log in
-              let ne : p ≡ e.position → ⊥ = λ s. none (length a.log) (omega arith) (ap (λ (z : Event). z.position) (new_event (length a.log) refl) ∙ sym s) in
-              let old : (i : ℕ) → i < length a.log → (event_at a.log i).position ≢ p = λ i y s. none i (omega arith) (ap (λ (z : Event). z.position) (old_event i y) ∙ s) in
-              keeps p x ne ∙ h.rest p x old
+                let k = long_log in
+                let ne : p ≡ e.position → ⊥ = λ s. none (length a.log) (omega arith) (ap (λ (z : Event). z.position) (new_event (length a.log) refl) ∙ sym s) in
+                let old : (i : ℕ) → i < length a.log → (event_at a.log i).position ≢ p = λ i y s. none i (omega arith) (ap (λ (z : Event). z.position) (old_event i y) ∙ s) in
+                keeps p x ne ∙ h.rest p x old
             | inr x ↦ fresh_ones p x l
-          ]
+          ];
         }
 
   -- ---- the two recordings keep what an atlas keeps
 
   crossed : (a : Atlas) (p : ℕ × ℕ) (t : Classes) → Beyond (entry_at a.entries p.0).triangulation (facet_at a.entries p) t → (m : Mark) → IsCause a.dimension a.entries a.entries p t m false →
-    (k : ℕ) (u : List (List ℤ)) → m ≡ cross k u → IsCrossed Beyond a.dimension a.entries p k u
+      (k : ℕ) (u : List (List ℤ)) → m ≡ cross k u → IsCrossed Beyond a.dimension a.entries p k u
   crossed a p t x m c k u e =
       let y : IsKnown a.dimension a.entries t k u = subst (λ (z : Mark). IsCause a.dimension a.entries a.entries p t z false) e c in
       record { present = y.present; across = t; is_across = x; narrow = y.narrow; carries = y.carries }
@@ -140,17 +139,17 @@ module _ (Beyond : Classes → List ℤ → Classes → Type 0) where
       record {
         right = record {
           parts = right_set Beyond a.dimension a.entries a.marks (place_at a.queue p) m h.right.parts o.undecided (crossed a (place_at a.queue p) l.across l.is_across m l.cause);
-          queue = queue_push a p m o h.right.queue
+          queue = queue_push a p m o h.right.queue;
         };
         legal = log_more a (push a p m) (record { position = p; mark = m; fresh = false }) refl h.legal h.orderly
-          (λ i x. cut_push a p m i o x)
-          (λ c x y. y)
-          l
-          (λ x y. refl)
-          (mark_at-set_same a.marks (place_at a.queue p) m w.0 w.1)
-          (λ q x ne. mark_at-set_other a.marks (place_at a.queue p) m q w.0 ne)
-          (λ x y z. absurd (omega arith));
-        orderly = orderly_push a p m o h.orderly
+            (λ i x. cut_push a p m i o x)
+            (λ c x y. y)
+            l
+            (λ x y. refl)
+            (mark_at-set_same a.marks (place_at a.queue p) m w.0 w.1)
+            (λ q x ne. mark_at-set_other a.marks (place_at a.queue p) m q w.0 ne)
+            (λ x y z. absurd (omega arith));
+        orderly = orderly_push a p m o h.orderly;
       }
 
   pub kept_grow : (a : Atlas) (p : ℕ) (e : Entry) → IsKept Beyond a → IsLegal Beyond a (a.entries ++ e ∷ []) (record { position = p; mark = cross (length a.entries) (identity a.dimension); fresh = true }) → IsKept Beyond (grow a p e)
@@ -168,21 +167,21 @@ module _ (Beyond : Classes → List ℤ → Classes → Type 0) where
       record {
         right = record {
           parts = right_more Beyond a.dimension a.entries a.marks q e h.right.parts o.undecided
-            (subst (λ (x : Classes). Beyond (entry_at a.entries q.0).triangulation (facet_at a.entries q) x) t l.is_across)
-            (subst (λ (x : Classes). IsUnlikeAll a.dimension x a.entries) t c.new)
-            (subst (IsRightEntry a.dimension) s c.right)
-            (sym (ap (λ (x : Entry). x.origin) s) ∙ c.origin);
-          queue = queue_grow a p e o lists h.right.queue
+              (subst (λ (x : Classes). Beyond (entry_at a.entries q.0).triangulation (facet_at a.entries q) x) t l.is_across)
+              (subst (λ (x : Classes). IsUnlikeAll a.dimension x a.entries) t c.new)
+              (subst (IsRightEntry a.dimension) s c.right)
+              (sym (ap (λ (x : Entry). x.origin) s) ∙ c.origin);
+          queue = queue_grow a p e o lists h.right.queue;
         };
         legal = log_more a (grow a p e) (record { position = p; mark = it; fresh = true }) refl h.legal h.orderly
-          (λ i x. cut_grow a p e i o x)
-          (λ c x y. legal_more c a.entries x e y)
-          l
-          (λ x y. old_place a p e o lists x y)
-          (mark_at-more changed (opens (length (facets e))) q (omega arith) ∙ mark_at-set_same a.marks q it w.0 w.1)
-          (λ x y ne. mark_at-more changed (opens (length (facets e))) x (omega arith) ∙ mark_at-set_other a.marks q it x w.0 ne)
-          (λ x y z. new_open a p e o lists x y z);
-        orderly = orderly_grow a p e o lists h.orderly
+            (λ i x. cut_grow a p e i o x)
+            (λ c x y. legal_more c a.entries x e y)
+            l
+            (λ x y. old_place a p e o lists x y)
+            (mark_at-more changed (opens (length (facets e))) q (omega arith) ∙ mark_at-set_same a.marks q it w.0 w.1)
+            (λ x y ne. mark_at-more changed (opens (length (facets e))) x (omega arith) ∙ mark_at-set_other a.marks q it x w.0 ne)
+            (λ x y z. new_open a p e o lists x y z);
+        orderly = orderly_grow a p e o lists h.orderly;
       }
 
   pub legal_new : (a : Atlas) (p : ℕ) (e : Entry) → IsOpenAt a p → IsCandidate Beyond a p (length a.entries) e → e.origin ≡ Some (place_at a.queue p) → IsLegal Beyond a (a.entries ++ e ∷ []) (record { position = p; mark = cross (length a.entries) (identity a.dimension); fresh = true })
@@ -200,8 +199,8 @@ module _ (Beyond : Classes → List ℤ → Classes → Type 0) where
           present = omega arith;
           entry = ap (λ (x : Entry). x.triangulation) s;
           right = subst (IsRightEntry a.dimension) (sym s) c.right;
-          origin = ap (λ (x : Entry). x.origin) s ∙ g
-        }
+          origin = ap (λ (x : Entry). x.origin) s ∙ g;
+        };
       }
 
   -- a mark that is right for the first n entries is so for all where these are all, or where it is no heavy one
@@ -211,5 +210,5 @@ module _ (Beyond : Classes → List ℤ → Classes → Type 0) where
         position = o;
         across = s.across;
         is_across = s.is_across;
-        cause = stuck_cause a.dimension a.entries n (place_at a.queue p) s.across m s.no_cross s.cause h
+        cause = stuck_cause a.dimension a.entries n (place_at a.queue p) s.across m s.no_cross s.cause h;
       }

@@ -45,9 +45,10 @@ module _ (Beyond : Classes → List ℤ → Classes → Type 0) (d : ℕ) (laws 
         let o : HasOrigin Beyond d es ms (suc k) = h.origins (suc k) (omega arith) hk in
         let lt : o.parent < suc k = o.earlier in
         let r = below n o.parent (omega arith) (omega arith) in
-        let f = facet_there o.parent o.facet (omega arith) o.within in
-        (laws.kept (entry_at es o.parent).triangulation (entry_at es (suc k)).triangulation (facet_at es (o.parent, o.facet)) r.0 f o.across,
-         next (facet_at es (o.parent, o.facet)) r.1 f o.across)
+        let f = facet_there o.parent o.facet (omega arith) o.within in (
+          laws.kept (entry_at es o.parent).triangulation (entry_at es (suc k)).triangulation (facet_at es (o.parent, o.facet)) r.0 f o.across,
+          next (facet_at es (o.parent, o.facet)) r.1 f o.across,
+        )
 
     pub entry_form : (k : ℕ) → k < length es → HasForm d (entry_at es k).triangulation
     entry_form k l = (below (suc k) k (omega arith) l).0

@@ -32,12 +32,12 @@ pub mark_at-set_other : (ms : List (List Mark)) (p : ℕ × ℕ) (m : Mark) (q :
 mark_at-set_other ms p m q h ne =
     elim (cases_eq q.0 p.0) [
       | inl e ↦
-        let other : q.1 ≢ p.1 = λ f. ne (same_place q p e f) in
-        let row : List Mark = get_or ms p.0 [] in
-        ap (λ k. get_or (get_or (set_mark ms p m) k []) q.1 no_mark) e
-        ∙ ap (λ r. get_or r q.1 no_mark) (get_or-set_same ms p.0 (set row p.1 m) [] h)
-        ∙ get_or-set_other row p.1 q.1 m no_mark other
-        ∙ ap (λ k. get_or (get_or ms k []) q.1 no_mark) (sym e)
+          let other : q.1 ≢ p.1 = λ f. ne (same_place q p e f) in
+          let row : List Mark = get_or ms p.0 [] in
+          ap (λ k. get_or (get_or (set_mark ms p m) k []) q.1 no_mark) e
+          ∙ ap (λ r. get_or r q.1 no_mark) (get_or-set_same ms p.0 (set row p.1 m) [] h)
+          ∙ get_or-set_other row p.1 q.1 m no_mark other
+          ∙ ap (λ k. get_or (get_or ms k []) q.1 no_mark) (sym e)
       | inr n ↦ ap (λ r. get_or r q.1 no_mark) (get_or-set_other ms p.0 q.0 (set (get_or ms p.0 []) p.1 m) [] n)
     ]
 
@@ -46,10 +46,10 @@ pub row-set : (ms : List (List Mark)) (p : ℕ × ℕ) (m : Mark) (k : ℕ) → 
 row-set ms p m k h =
     elim (cases_eq k p.0) [
       | inl e ↦
-        ap (λ j. length (get_or (set_mark ms p m) j [])) e
-        ∙ ap length (get_or-set_same ms p.0 (set (get_or ms p.0 []) p.1 m) [] h)
-        ∙ length-set (get_or ms p.0 []) p.1 m
-        ∙ ap (λ j. length (get_or ms j [])) (sym e)
+          ap (λ j. length (get_or (set_mark ms p m) j [])) e
+          ∙ ap length (get_or-set_same ms p.0 (set (get_or ms p.0 []) p.1 m) [] h)
+          ∙ length-set (get_or ms p.0 []) p.1 m
+          ∙ ap (λ j. length (get_or ms j [])) (sym e)
       | inr n ↦ ap length (get_or-set_other ms p.0 k (set (get_or ms p.0 []) p.1 m) [] n)
     ]
 
@@ -77,17 +77,18 @@ pub no_cross_more : (ms : List (List Mark)) (n : ℕ) (q : ℕ × ℕ) (k : ℕ)
 no_cross_more ms n q k u h e =
     elim (cases_eq (length ms) q.0) [
       | inl s ↦
-        let row : get_or (ms ++ opens n ∷ []) q.0 [] ≡ opens n = get_or_at ms (opens n) [] [] q.0 s in
-        let it : mark_at (ms ++ opens n ∷ []) q ≡ get_or (opens n) q.1 no_mark = ap (λ r. get_or r q.1 no_mark) row in
-        elim (opens_or_none n q.1) [ inl o ↦ clash (sym e ∙ it ∙ o) | inr o ↦ none (sym e ∙ it ∙ o) ]
+          let row : get_or (ms ++ opens n ∷ []) q.0 [] ≡ opens n = get_or_at ms (opens n) [] [] q.0 s in
+          let it : mark_at (ms ++ opens n ∷ []) q ≡ get_or (opens n) q.1 no_mark = ap (λ r. get_or r q.1 no_mark) row in
+          elim (opens_or_none n q.1) [ inl o ↦ clash (sym e ∙ it ∙ o) | inr o ↦ none (sym e ∙ it ∙ o) ]
       | inr ne ↦
-        let long = length_more ms (opens n) in
-        let row : get_or (ms ++ opens n ∷ []) q.0 [] ≡ [] = get_or_past (ms ++ opens n ∷ []) q.0 [] (omega arith) in
-        none (sym e ∙ ap (λ r. get_or r q.1 no_mark) row)
+          let long = length_more ms (opens n) in
+          let row : get_or (ms ++ opens n ∷ []) q.0 [] ≡ [] = get_or_past (ms ++ opens n ∷ []) q.0 [] (omega arith) in
+          none (sym e ∙ ap (λ r. get_or r q.1 no_mark) row)
     ]
   where
     clash : cross k u ≡ open_mark → ⊥
     clash x = cc
+
     none : cross k u ≡ no_mark → ⊥
     none x = cc
 
@@ -114,7 +115,7 @@ module _ (Beyond : Classes → List ℤ → Classes → Type 0) (d : ℕ) where
         earlier = h.earlier;
         within = h.within;
         across = h.across;
-        mark = mark_at-set_other ms p m (h.parent, h.facet) w.0 other ∙ h.mark
+        mark = mark_at-set_other ms p m (h.parent, h.facet) w.0 other ∙ h.mark;
       }
 
   pub right_set : (es : List Entry) (ms : List (List Mark)) (p : ℕ × ℕ) (m : Mark) → AreRight Beyond d es ms → mark_at ms p ≡ open_mark → ((k : ℕ) (u : List (List ℤ)) → m ≡ cross k u → IsCrossed Beyond d es p k u) → AreRight Beyond d es (set_mark ms p m)
@@ -129,7 +130,7 @@ module _ (Beyond : Classes → List ℤ → Classes → Type 0) (d : ℕ) where
         origins = λ k l b. origin_kept es ms p m k o (h.origins k l b);
         crosses = λ q k u e. crossing q k u e;
         apart = h.apart;
-        entries = h.entries
+        entries = h.entries;
       }
     where
       crossing : (q : ℕ × ℕ) (k : ℕ) (u : List (List ℤ)) → mark_at (set_mark ms p m) q ≡ cross k u → IsCrossed Beyond d es q k u
@@ -159,11 +160,11 @@ module _ (Beyond : Classes → List ℤ → Classes → Type 0) (d : ℕ) where
         across = h.across;
         is_across = subst (λ (x : Entry). Beyond x.triangulation (get_or (facets x) p.1 []) h.across) (sym (old_entry es e p.0 l)) h.is_across;
         narrow = h.narrow;
-        carries = subst (λ (x : Entry). Carries d u h.across x.triangulation) (sym (old_entry es e k h.present)) h.carries
+        carries = subst (λ (x : Entry). Carries d u h.across x.triangulation) (sym (old_entry es e k h.present)) h.carries;
       }
 
   module _ (es : List Entry) (ms : List (List Mark)) (p : ℕ × ℕ) (e : Entry) (h : AreRight Beyond d es ms) (o : mark_at ms p ≡ open_mark)
-    (a : Beyond (entry_at es p.0).triangulation (facet_at es p) e.triangulation) (n : IsUnlikeAll d e.triangulation es) (r : IsRightEntry d e) (g : e.origin ≡ Some p) where
+      (a : Beyond (entry_at es p.0).triangulation (facet_at es p) e.triangulation) (n : IsUnlikeAll d e.triangulation es) (r : IsRightEntry d e) (g : e.origin ≡ Some p) where
     abbrev all : List Entry
     all = es ++ e ∷ []
 
@@ -190,14 +191,14 @@ module _ (Beyond : Classes → List ℤ → Classes → Type 0) (d : ℕ) where
         let lc = long_changed in
         elim (old_or_new es e k l) [
           | inl b ↦
-            ap length (get_or_append_left changed (opens (length (facets e)) ∷ []) [] k (omega arith))
-            ∙ row-set ms p it k inside.0
-            ∙ h.each k b
-            ∙ ap (λ (x : Entry). length (facets x)) (sym (old_entry es e k b))
+              ap length (get_or_append_left changed (opens (length (facets e)) ∷ []) [] k (omega arith))
+              ∙ row-set ms p it k inside.0
+              ∙ h.each k b
+              ∙ ap (λ (x : Entry). length (facets x)) (sym (old_entry es e k b))
           | inr b ↦
-            ap length (get_or_at changed (opens (length (facets e))) [] [] k (omega arith))
-            ∙ length-opens (length (facets e))
-            ∙ ap (λ (x : Entry). length (facets x)) (sym (new_entry es e k b))
+              ap length (get_or_at changed (opens (length (facets e))) [] [] k (omega arith))
+              ∙ length-opens (length (facets e))
+              ∙ ap (λ (x : Entry). length (facets x)) (sym (new_entry es e k b))
         ]
 
     facet_of_p : p.1 < length (facets (entry_at all p.0))
@@ -221,7 +222,7 @@ module _ (Beyond : Classes → List ℤ → Classes → Type 0) (d : ℕ) where
           earlier = omega arith;
           within = facet_of_p;
           across = subst (λ (x : Entry). Beyond x.triangulation (get_or (facets x) p.1 []) (entry_at all k).triangulation) (sym (old_entry es e p.0 pw)) (subst (λ (y : Entry). Beyond (entry_at es p.0).triangulation (facet_at es p) y.triangulation) (sym (new_entry es e k b)) a);
-          mark = mark_left p pw ∙ mark_at-set_same ms p it w.0 w.1 ∙ ap (λ j. cross j (identity d)) b
+          mark = mark_left p pw ∙ mark_at-set_same ms p it w.0 w.1 ∙ ap (λ j. cross j (identity d)) b;
         }
 
     old_origin : (k : ℕ) → k < length es → HasOrigin Beyond d es ms k → HasOrigin Beyond d all marks k
@@ -235,7 +236,7 @@ module _ (Beyond : Classes → List ℤ → Classes → Type 0) (d : ℕ) where
           earlier = x.earlier;
           within = subst (λ (y : Entry). x.facet < length (facets y)) (sym (old_entry es e x.parent lt)) x.within;
           across = subst (λ (z : Entry). Beyond z.triangulation (get_or (facets z) x.facet []) (entry_at all k).triangulation) (sym (old_entry es e x.parent lt)) (subst (λ (y : Entry). Beyond (entry_at es x.parent).triangulation (facet_at es (x.parent, x.facet)) y.triangulation) (sym (old_entry es e k b)) x.across);
-          mark = mark_left (x.parent, x.facet) lt ∙ mark_at-set_other ms p it (x.parent, x.facet) inside.0 (λ y. open_no_cross k (identity d) (sym o ∙ ap (mark_at ms) (sym y) ∙ x.mark)) ∙ x.mark
+          mark = mark_left (x.parent, x.facet) lt ∙ mark_at-set_other ms p it (x.parent, x.facet) inside.0 (λ y. open_no_cross k (identity d) (sym o ∙ ap (mark_at ms) (sym y) ∙ x.mark)) ∙ x.mark;
         }
 
     -- the mark that was set leads to the new entry
@@ -250,7 +251,7 @@ module _ (Beyond : Classes → List ℤ → Classes → Type 0) (d : ℕ) where
           across = e.triangulation;
           is_across = subst (λ (x : Entry). Beyond x.triangulation (get_or (facets x) p.1 []) e.triangulation) (sym (old_entry es e p.0 parent_within)) a;
           narrow = r.narrow;
-          carries = subst (λ (x : Entry). Carries d u e.triangulation x.triangulation) (sym (new_entry es e k b)) (subst (λ (v : List (List ℤ)). Carries d v e.triangulation e.triangulation) i (carries_identity d e.triangulation r.classes))
+          carries = subst (λ (x : Entry). Carries d u e.triangulation x.triangulation) (sym (new_entry es e k b)) (subst (λ (v : List (List ℤ)). Carries d v e.triangulation e.triangulation) i (carries_identity d e.triangulation r.classes));
         })
 
     crossing : (q : ℕ × ℕ) (k : ℕ) (u : List (List ℤ)) → mark_at marks q ≡ cross k u → IsCrossed Beyond d all q k u
@@ -283,8 +284,8 @@ module _ (Beyond : Classes → List ℤ → Classes → Type 0) (d : ℕ) where
           | inl a ↦ elim (old_or_new es e l hl) [
             | inl b ↦ h.apart k l a b ne (subst (λ (x : Entry). Like x (entry_at es l)) (old_entry es e k a) (subst (λ (x : Entry). Like (entry_at all k) x) (old_entry es e l b) c))
             | inr b ↦
-              let c' : Like (entry_at es k) e = subst (λ (x : Entry). Like x e) (old_entry es e k a) (subst (λ (x : Entry). Like (entry_at all k) x) (new_entry es e l b) c) in
-              n k a (carries_back d (entry_at es k).triangulation e.triangulation (h.entries k a).classes c')
+                let c' : Like (entry_at es k) e = subst (λ (x : Entry). Like x e) (old_entry es e k a) (subst (λ (x : Entry). Like (entry_at all k) x) (new_entry es e l b) c) in
+                n k a (carries_back d (entry_at es k).triangulation e.triangulation (h.entries k a).classes c')
           ]
           | inr a ↦ elim (old_or_new es e l hl) [
             | inl b ↦ n l b (subst (λ (x : Entry). Like x (entry_at es l)) (new_entry es e k a) (subst (λ (x : Entry). Like (entry_at all k) x) (old_entry es e l b) c))
@@ -305,5 +306,5 @@ module _ (Beyond : Classes → List ℤ → Classes → Type 0) (d : ℕ) where
           origins = λ k z l. elim (old_or_new es e k l) [ inl b ↦ old_origin k b (h.origins k z b) | inr b ↦ its_origin k b ];
           crosses = crossing;
           apart = apart;
-          entries = entries
+          entries = entries;
         }

@@ -169,28 +169,28 @@ sound_grow a n z c c' p e s w l lc =
 
 -- the fields after an event with an entry
 pub value_grow : (i : Inside) (after : Inside) (p : ℕ) (x : ℕ × ℕ) (e : Entry) (row : Vec Mark Global) (k : ℕ) (u : List (List ℤ)) (v : Event) →
-  after.dimension ≡ i.dimension →
-  model.place_at (value_of i).queue p ≡ x →
-  k ≡ length (value_of i).entries →
-  u ≡ identity i.dimension →
-  after.entries.items ≡ i.entries.items ++ e ∷ [] →
-  (marks : Vec (Vec Mark Global) Global) → marks_of marks.items ≡ model.set_mark (marks_of i.marks.items) x (model.cross k u) →
-  after.marks.items ≡ marks.items ++ row ∷ [] →
-  map mark_of row.items ≡ model.opens (length (model.facets (entry_of e))) →
-  after.queue.items ≡ i.queue.items ++ model.places_from k 0 (length (model.facets (entry_of e))) →
-  after.log.items ≡ i.log.items ++ v ∷ [] →
-  event_of v ≡ record { position = p; mark = model.cross k u; fresh = true } →
-  value_of after ≡ model.grow (value_of i) p (entry_of e)
+    after.dimension ≡ i.dimension →
+    model.place_at (value_of i).queue p ≡ x →
+    k ≡ length (value_of i).entries →
+    u ≡ identity i.dimension →
+    after.entries.items ≡ i.entries.items ++ e ∷ [] →
+    (marks : Vec (Vec Mark Global) Global) → marks_of marks.items ≡ model.set_mark (marks_of i.marks.items) x (model.cross k u) →
+    after.marks.items ≡ marks.items ++ row ∷ [] →
+    map mark_of row.items ≡ model.opens (length (model.facets (entry_of e))) →
+    after.queue.items ≡ i.queue.items ++ model.places_from k 0 (length (model.facets (entry_of e))) →
+    after.log.items ≡ i.log.items ++ v ∷ [] →
+    event_of v ≡ record { position = p; mark = model.cross k u; fresh = true } →
+    value_of after ≡ model.grow (value_of i) p (entry_of e)
 value_grow i after p x e row k u v hd hx hk hu he marks hm hr hn hq hl hv =
     let n : ℕ = length (model.facets (entry_of e)) in
     let c : model.cross k u ≡ model.cross (length (value_of i).entries) (identity i.dimension) = ap (λ j. model.cross j u) hk ∙ ap (model.cross (length (value_of i).entries)) hu in
     same_atlas (value_of after) (model.grow (value_of i) p (entry_of e)) hd
     (ap (map entry_of) he ∙ map-append entry_of i.entries.items (e ∷ []))
     (ap marks_of hr ∙ map-append (λ (ms : Vec Mark Global). map mark_of ms.items) marks.items (row ∷ [])
-     ∙ ap (λ ms. ms ++ map mark_of row.items ∷ []) (hm ∙ ap (λ q. model.set_mark (marks_of i.marks.items) q (model.cross k u)) (sym hx) ∙ ap (model.set_mark (marks_of i.marks.items) (model.place_at (value_of i).queue p)) c)
-     ∙ ap (λ r. model.set_mark (marks_of i.marks.items) (model.place_at (value_of i).queue p) (model.cross (length (value_of i).entries) (identity i.dimension)) ++ r ∷ []) hn)
+    ∙ ap (λ ms. ms ++ map mark_of row.items ∷ []) (hm ∙ ap (λ q. model.set_mark (marks_of i.marks.items) q (model.cross k u)) (sym hx) ∙ ap (model.set_mark (marks_of i.marks.items) (model.place_at (value_of i).queue p)) c)
+    ∙ ap (λ r. model.set_mark (marks_of i.marks.items) (model.place_at (value_of i).queue p) (model.cross (length (value_of i).entries) (identity i.dimension)) ++ r ∷ []) hn)
     (ap (map (λ (q : ℕ × ℕ). (q.0, q.1))) hq ∙ map-append (λ (q : ℕ × ℕ). (q.0, q.1)) i.queue.items (model.places_from k 0 n)
-     ∙ ap (λ ps. (value_of i).queue ++ ps) (map-id (model.places_from k 0 n) ∙ ap (λ j. model.places_from j 0 n) hk))
+    ∙ ap (λ ps. (value_of i).queue ++ ps) (map-id (model.places_from k 0 n) ∙ ap (λ j. model.places_from j 0 n) hk))
     (ap (map event_of) hl ∙ map-append event_of i.log.items (v ∷ []) ∙ ap (λ y. map event_of i.log.items ++ y ∷ []) (hv ∙ ap (λ m. record { position = p; mark = m; fresh = true }) c))
 
 pub some_open_here : (a : model.Atlas) (n x c p : ℕ) → IsSound a n x c → IsOpenAt a p → 1 ≤ n
@@ -203,21 +203,20 @@ pub open_inside : (i : Inside) (b : model.Atlas) (p : ℕ) → value_of i ≡ b 
 open_inside i b p e o = subst (λ (z : model.Atlas). IsOpenAt z p) (sym e) o
 
 legal_grow_inside : (i : Inside) (b : model.Atlas) (p : ℕ) (t : List (List (List ℤ))) (cone : Cone) → value_of i ≡ b → IsOpenAt b p → IsCandidate (IsAcross b.dimension) b p (length b.entries) (candidate b p t cone) →
-  IsLegal (IsAcross (value_of i).dimension) (value_of i) ((value_of i).entries ++ candidate (value_of i) p t cone ∷ []) (record { position = p; mark = model.cross (length (value_of i).entries) (identity (value_of i).dimension); fresh = true })
+    IsLegal (IsAcross (value_of i).dimension) (value_of i) ((value_of i).entries ++ candidate (value_of i) p t cone ∷ []) (record { position = p; mark = model.cross (length (value_of i).entries) (identity (value_of i).dimension); fresh = true })
 legal_grow_inside i b p t cone e o c =
     subst (λ (z : model.Atlas). IsLegal (IsAcross z.dimension) z (z.entries ++ candidate z p t cone ∷ []) (record { position = p; mark = model.cross (length z.entries) (identity z.dimension); fresh = true })) (sym e)
     (legal_new (IsAcross b.dimension) b p (candidate b p t cone) o c refl)
 
 module _ (i after : Inside) (b : model.Atlas) (p : ℕ) (t : List (List (List ℤ))) (cone : Cone) (x : ℕ × ℕ) (row : Vec Mark Global) (u u' : List ℤ) (marks : Vec (Vec Mark Global) Global) (n k : ℕ) (hk : k ≡ vec_len i.entries)
-  (hb : value_of i ≡ b) (inv : KeepsAtlas i) (o : IsOpenAt b p) (c : IsCandidate (IsAcross b.dimension) b p (length b.entries) (candidate b p t cone))
-  (hx : x ≡ get_or i.queue.items p x) (hd : after.dimension ≡ i.dimension) (hu : u ≡ flat (identity i.dimension)) (hu' : u' ≡ flat (identity i.dimension)) (hn : n ≡ length (model.facets_of cone.rows))
-  (he : after.entries.items ≡ i.entries.items ++ record { triangulation = t; cone = cone; origin = Some x } ∷ [])
-  (hm : marks_of marks.items ≡ model.set_mark (marks_of i.marks.items) x (model.cross k (matrix_rows u)))
-  (hr : after.marks.items ≡ marks.items ++ row ∷ []) (ho : map mark_of row.items ≡ model.opens n)
-  (hq : after.queue.items ≡ i.queue.items ++ model.places_from k 0 n)
-  (hl : after.log.items ≡ i.log.items ++ record { position = p; mark = Cross k u'; fresh = true } ∷ [])
-  (hw : length b.entries < 2 ^ 30) (hund : after.undecided ≡ i.undecided - 1 + n) (hst : after.stuck ≡ i.stuck) (hcap : vec_len i.log + (i.undecided + n) ≤ vec_capacity after.log) where
-
+    (hb : value_of i ≡ b) (inv : KeepsAtlas i) (o : IsOpenAt b p) (c : IsCandidate (IsAcross b.dimension) b p (length b.entries) (candidate b p t cone))
+    (hx : x ≡ get_or i.queue.items p x) (hd : after.dimension ≡ i.dimension) (hu : u ≡ flat (identity i.dimension)) (hu' : u' ≡ flat (identity i.dimension)) (hn : n ≡ length (model.facets_of cone.rows))
+    (he : after.entries.items ≡ i.entries.items ++ record { triangulation = t; cone = cone; origin = Some x } ∷ [])
+    (hm : marks_of marks.items ≡ model.set_mark (marks_of i.marks.items) x (model.cross k (matrix_rows u)))
+    (hr : after.marks.items ≡ marks.items ++ row ∷ []) (ho : map mark_of row.items ≡ model.opens n)
+    (hq : after.queue.items ≡ i.queue.items ++ model.places_from k 0 n)
+    (hl : after.log.items ≡ i.log.items ++ record { position = p; mark = Cross k u'; fresh = true } ∷ [])
+    (hw : length b.entries < 2 ^ 30) (hund : after.undecided ≡ i.undecided - 1 + n) (hst : after.stuck ≡ i.stuck) (hcap : vec_len i.log + (i.undecided + n) ≤ vec_capacity after.log) where
   abbrev new : Entry
   new = record { triangulation = t; cone = cone; origin = Some x }
 
@@ -245,7 +244,7 @@ module _ (i after : Inside) (b : model.Atlas) (p : ℕ) (t : List (List (List �
       let s = sound_grow (value_of i) i.undecided i.stuck (vec_capacity i.log) (vec_capacity after.log) p (candidate (value_of i) p t cone) inv (subst (λ (z : model.Atlas). length z.entries < 2 ^ 30) (sym hb) hw) (legal_grow_inside i b p t cone hb o c) (omega arith) in
       subst (λ (y : ℕ). IsSound (value_of after) after.undecided y (vec_capacity after.log)) (sym hst)
       (subst (λ (j : ℕ). IsSound (value_of after) j i.stuck (vec_capacity after.log)) (ap (λ j. i.undecided - 1 + j) (sym hn) ∙ sym hund)
-       (subst (λ (z : model.Atlas). IsSound z (i.undecided - 1 + length (model.facets_of cone.rows)) i.stuck (vec_capacity after.log)) (sym value_inside) s))
+      (subst (λ (z : model.Atlas). IsSound z (i.undecided - 1 + length (model.facets_of cone.rows)) i.stuck (vec_capacity after.log)) (sym value_inside) s))
 
 -- ---- the start
 

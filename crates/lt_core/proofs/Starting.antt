@@ -24,9 +24,10 @@ module _ {A : Type 0} where
 
   pub once_append : (xs ys : List A) → IsOnce xs → IsOnce ys → ((x : A) → Contains xs x → Contains ys x → ⊥) → IsOnce (xs ++ ys)
   once_append [] ys h k apart = k
-  once_append (x ∷ xs) ys h k apart =
-      (λ c. elim (append_cases xs ys x c) [ inl l ↦ h.0 l | inr r ↦ apart x (Contains-head x xs) r ],
-       once_append xs ys h.1 k (λ y l r. apart y (Contains-tail x xs y l) r))
+  once_append (x ∷ xs) ys h k apart = (
+    λ c. elim (append_cases xs ys x c) [ inl l ↦ h.0 l | inr r ↦ apart x (Contains-head x xs) r ],
+    once_append xs ys h.1 k (λ y l r. apart y (Contains-tail x xs y l) r),
+  )
 
   pub once_at : (xs : List A) (i j : ℕ) (d : A) → IsOnce xs → i < length xs → j < length xs → get_or xs i d ≡ get_or xs j d → i ≡ j
   once_at [] i j d h hi hj e = absurd (omega arith)
@@ -115,19 +116,19 @@ kept_fresh Beyond d es ms h =
     record {
       right = record {
         parts = h;
-        queue = sym (append-nil (open_places 0 ms)) ∙ ap (λ ns. open_places 0 ms ++ all_places (length ms) ns) (sym none)
+        queue = sym (append-nil (open_places 0 ms)) ∙ ap (λ ns. open_places 0 ms ++ all_places (length ms) ns) (sym none);
       };
       legal = record {
         distinct = λ i j hi hj e. absurd (omega arith);
         legal = λ i hi. absurd (omega arith);
         standing = λ i hi. absurd (omega arith);
-        rest = λ p l n. queue_open ms p l
+        rest = λ p l n. queue_open ms p l;
       };
       orderly = record {
         once = λ p q hp hq e. once_at (open_places 0 ms) p q (0, 0) (rows_once 0 ms) hp hq e;
         entry_within = λ p l. (open_within ms (place_at (open_places 0 ms) p) (queue_open ms p l)).0;
-        facet_within = λ p l. (open_within ms (place_at (open_places 0 ms) p) (queue_open ms p l)).1
-      }
+        facet_within = λ p l. (open_within ms (place_at (open_places 0 ms) p) (queue_open ms p l)).1;
+      };
     }
 
 -- ---- the queue, filled row by row

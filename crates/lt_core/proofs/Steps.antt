@@ -64,7 +64,7 @@ orderly_push a p m o h =
     record {
       once = h.once;
       entry_within = λ x l. let k = h.entry_within x l in omega arith;
-      facet_within = λ x l. let k = h.facet_within x l in let r = row-set a.marks q m (place_at a.queue x).0 w.0 in omega arith
+      facet_within = λ x l. let k = h.facet_within x l in let r = row-set a.marks q m (place_at a.queue x).0 w.0 in omega arith;
     }
 
 place_from : (k f n i : ℕ) → i < n → get_or (places_from k f n) i (0, 0) ≡ (k, f + i)
@@ -123,12 +123,12 @@ module _ (a : Atlas) (p : ℕ) (e : Entry) (o : IsOpenAt a p) (l : length a.mark
           | inr bx ↦ elim (cases_lt y (length a.queue)) [
             | inl by ↦ absurd (apart y x by bx hx (sym s))
             | inr by ↦
-              let f : x - length a.queue ≡ y - length a.queue = ap (λ (q : ℕ × ℕ). q.1) (sym (new_place x bx hx) ∙ s ∙ new_place y by hy) in
-              omega arith
+                let f : x - length a.queue ≡ y - length a.queue = ap (λ (q : ℕ × ℕ). q.1) (sym (new_place x bx hx) ∙ s ∙ new_place y by hy) in
+                omega arith
           ]
         ];
         entry_within = λ x hx. entry_there x hx;
-        facet_within = λ x hx. facet_there x hx
+        facet_within = λ x hx. facet_there x hx;
       }
     where
       apart : (x y : ℕ) → x < length a.queue → length a.queue ≤ y → y < length (grow a p e).queue → place_at (grow a p e).queue x ≡ place_at (grow a p e).queue y → ⊥
@@ -136,6 +136,7 @@ module _ (a : Atlas) (p : ℕ) (e : Entry) (o : IsOpenAt a p) (l : length a.mark
           let f : (place_at a.queue x).0 ≡ length a.entries = ap (λ (q : ℕ × ℕ). q.0) (sym (old_place x bx) ∙ s ∙ new_place y by hy) in
           let g = h.entry_within x bx in
           omega arith
+
       entry_there : (x : ℕ) → x < length (grow a p e).queue → (place_at (grow a p e).queue x).0 < length (grow a p e).marks
       entry_there x hx =
           let lc = long_changed in
@@ -144,6 +145,7 @@ module _ (a : Atlas) (p : ℕ) (e : Entry) (o : IsOpenAt a p) (l : length a.mark
             | inl bx ↦ let s = ap (λ (q : ℕ × ℕ). q.0) (old_place x bx) in let g = h.entry_within x bx in omega arith
             | inr bx ↦ let s = ap (λ (q : ℕ × ℕ). q.0) (new_place x bx hx) in omega arith
           ]
+
       facet_there : (x : ℕ) → x < length (grow a p e).queue → (place_at (grow a p e).queue x).1 < length (get_or (grow a p e).marks (place_at (grow a p e).queue x).0 [])
       facet_there x hx =
           let lc = long_changed in
@@ -151,15 +153,15 @@ module _ (a : Atlas) (p : ℕ) (e : Entry) (o : IsOpenAt a p) (l : length a.mark
           let w = open_within a.marks here o.undecided in
           elim (cases_lt x (length a.queue)) [
             | inl bx ↦
-              let q : ℕ × ℕ = place_at a.queue x in
-              let g = h.entry_within x bx in
-              let k = h.facet_within x bx in
-              let r : get_or (grow a p e).marks q.0 [] ≡ get_or changed q.0 [] = get_or_append_left changed (opens count ∷ []) [] q.0 (omega arith) in
-              let t : length (get_or changed q.0 []) ≡ length (get_or a.marks q.0 []) = row-set a.marks here it q.0 w.0 in
-              let all : q.1 < length (get_or (grow a p e).marks q.0 []) = (let rl = ap length r in omega arith) in
-              subst (λ (z : ℕ × ℕ). z.1 < length (get_or (grow a p e).marks z.0 [])) (sym (old_place x bx)) all
+                let q : ℕ × ℕ = place_at a.queue x in
+                let g = h.entry_within x bx in
+                let k = h.facet_within x bx in
+                let r : get_or (grow a p e).marks q.0 [] ≡ get_or changed q.0 [] = get_or_append_left changed (opens count ∷ []) [] q.0 (omega arith) in
+                let t : length (get_or changed q.0 []) ≡ length (get_or a.marks q.0 []) = row-set a.marks here it q.0 w.0 in
+                let all : q.1 < length (get_or (grow a p e).marks q.0 []) = (let rl = ap length r in omega arith) in
+                subst (λ (z : ℕ × ℕ). z.1 < length (get_or (grow a p e).marks z.0 [])) (sym (old_place x bx)) all
             | inr bx ↦
-              let rl : length (get_or (grow a p e).marks (length a.entries) []) ≡ count = ap length new_row ∙ length-opens count in
-              let all : x - length a.queue < length (get_or (grow a p e).marks (length a.entries) []) = omega arith in
-              subst (λ (z : ℕ × ℕ). z.1 < length (get_or (grow a p e).marks z.0 [])) (sym (new_place x bx hx)) all
+                let rl : length (get_or (grow a p e).marks (length a.entries) []) ≡ count = ap length new_row ∙ length-opens count in
+                let all : x - length a.queue < length (get_or (grow a p e).marks (length a.entries) []) = omega arith in
+                subst (λ (z : ℕ × ℕ). z.1 < length (get_or (grow a p e).marks z.0 [])) (sym (new_place x bx hx)) all
           ]

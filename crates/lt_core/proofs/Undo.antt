@@ -80,8 +80,8 @@ undo_push a p m o =
     let w = open_within a.marks (place_at a.queue p) o.undecided in
     ap (λ x. without_event x (push a p m)) (at_end a.log e no_event)
     ∙ same_atlas (without_event e (push a p m)) a refl refl
-      (set_mark_twice a.marks (place_at a.queue p) m open_mark w.0 ∙ set_mark_open a.marks (place_at a.queue p) o.undecided)
-      refl (front-more a.log e)
+    (set_mark_twice a.marks (place_at a.queue p) m open_mark w.0 ∙ set_mark_open a.marks (place_at a.queue p) o.undecided)
+    refl (front-more a.log e)
 
 pub undo_grow : (a : Atlas) (p : ℕ) (e : Entry) → IsOpenAt a p → undo (grow a p e) ≡ a
 undo_grow a p e o =
@@ -94,12 +94,12 @@ undo_grow a p e o =
     let long : length (grow a p e).queue ≡ length a.queue + n = length-append a.queue (places_from (length a.entries) 0 n) ∙ ap (λ k. length a.queue + k) (length-places_from (length a.entries) 0 n) in
     ap (λ y. without_event y (grow a p e)) (at_end a.log x no_event)
     ∙ same_atlas (without_event x (grow a p e)) a refl (front-more a.entries e)
-      (ap (λ ms. set_mark ms (place_at (grow a p e).queue p) open_mark) (front-more new (opens n))
-       ∙ ap (λ q. set_mark new q open_mark) here
-       ∙ set_mark_twice a.marks (place_at a.queue p) x.mark open_mark w.0
-       ∙ set_mark_open a.marks (place_at a.queue p) o.undecided)
-      (take_at a.queue (places_from (length a.entries) 0 n) (length (grow a p e).queue - length (get_or (grow a p e).marks (length (grow a p e).marks - 1) [])) (omega arith))
-      (front-more a.log x)
+    (ap (λ ms. set_mark ms (place_at (grow a p e).queue p) open_mark) (front-more new (opens n))
+    ∙ ap (λ q. set_mark new q open_mark) here
+    ∙ set_mark_twice a.marks (place_at a.queue p) x.mark open_mark w.0
+    ∙ set_mark_open a.marks (place_at a.queue p) o.undecided)
+    (take_at a.queue (places_from (length a.entries) 0 n) (length (grow a p e).queue - length (get_or (grow a p e).marks (length (grow a p e).marks - 1) [])) (omega arith))
+    (front-more a.log x)
 
 -- ---- cuts
 

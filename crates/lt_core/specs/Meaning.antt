@@ -12,7 +12,7 @@ value_of a = record {
   entries = map entry_of a.entries.items;
   marks = marks_of a.marks.items;
   queue = map (λ p. (p.0, p.1)) a.queue.items;
-  log = map event_of a.log.items
+  log = map event_of a.log.items;
 }
 
 abbrev pub KeepsAtlas : Inside → Type 0

@@ -8,4 +8,3 @@ pub record IsOneEntry (d : ℕ) (es : List Entry) (t : Classes) (k : ℕ) : Type
   pub present : k < length es
   pub equivalent : AreEquivalent d t (entry_at es k).triangulation
   pub alone : (l : ℕ) → l < length es → AreEquivalent d t (entry_at es l).triangulation → l ≡ k
-

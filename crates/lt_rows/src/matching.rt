@@ -4,7 +4,7 @@ ghost use Rattle.lt_triang.specs.Kept.{dimension_of, IsOfSomeForm};
 ghost use Rattle.std.specs.Prelude.{◌≡◌, ◌≤◌, length, IfOk};
 
 use lt_flip::flip;
-use lt_geometry::{images_are_delaunay, principal_facets, principal_is_delaunay, principal_regulators};
+use lt_geometry::{images_are_delaunay, principal_facets, principal_regulators};
 use lt_lattice::{Matrix, Point, inverse_of};
 use lt_match::{ImageError, carries, image, match_types};
 use lt_principal::principal;
@@ -20,7 +20,6 @@ fn principal_of(rt: &impl Abort, alloc: Global, d: u8) -> Triangulation
     ensures dimension { dimension_of result ≡ d }
     ensures delaunay { IsOfSomeForm result }
 {
-    principal_is_delaunay();
     match principal(alloc, d) {
         Ok(t) => t,
         Err(_) => {
@@ -57,6 +56,43 @@ fn image_by(
             Ok(made)
         }
         Err(error) => Err(error),
+    }
+}
+
+/// The principal triangulation, and the triangulation across its first facet.
+fn first_flip(rt: &impl Abort, alloc: Global, d: u8) -> (Triangulation, Triangulation)
+    requires low { 2 ≤ d }
+    requires high { d ≤ 6 }
+    ensures delaunay { IsOfSomeForm result.0 }
+    ensures delaunay_too { IsOfSomeForm result.1 }
+    ensures same { dimension_of result.1 ≡ dimension_of result.0 }
+{
+    principal_regulators();
+    principal_facets();
+    let t = match principal(alloc, d) {
+        Ok(t) => t,
+        Err(_) => {
+            assert!(rt; false);
+            unreachable!()
+        }
+    };
+    let normals = match regulators(alloc, &t) {
+        Ok(normals) => normals,
+        Err(_) => {
+            assert!(rt; false);
+            unreachable!()
+        }
+    };
+    if normals.len() == 0 {
+        assert!(rt; false);
+        unreachable!()
+    }
+    match flip(alloc, &t, &normals[0]) {
+        Ok(across) => (t, across),
+        Err(_) => {
+            assert!(rt; false);
+            unreachable!()
+        }
     }
 }
 
@@ -124,44 +160,6 @@ fn the_flip_of_the_plane_goes_back(rt: HostRuntime) {
             assert!(rt; !carries(&u, &flip, &t));
         }
         Err(_) => assert!(rt; false),
-    }
-}
-
-/// The principal triangulation, and the triangulation across its first facet.
-fn first_flip(rt: &impl Abort, alloc: Global, d: u8) -> (Triangulation, Triangulation)
-    requires low { 2 ≤ d }
-    requires high { d ≤ 6 }
-    ensures delaunay { IsOfSomeForm result.0 }
-    ensures delaunay_too { IsOfSomeForm result.1 }
-    ensures same { dimension_of result.1 ≡ dimension_of result.0 }
-{
-    principal_is_delaunay();
-    principal_regulators();
-    principal_facets();
-    let t = match principal(alloc, d) {
-        Ok(t) => t,
-        Err(_) => {
-            assert!(rt; false);
-            unreachable!()
-        }
-    };
-    let normals = match regulators(alloc, &t) {
-        Ok(normals) => normals,
-        Err(_) => {
-            assert!(rt; false);
-            unreachable!()
-        }
-    };
-    if normals.is_empty() {
-        assert!(rt; false);
-        unreachable!()
-    }
-    match flip(alloc, &t, &normals[0]) {
-        Ok(across) => (t, across),
-        Err(_) => {
-            assert!(rt; false);
-            unreachable!()
-        }
     }
 }
 

@@ -5,7 +5,7 @@ use Rattle.std.specs.Io.KnownBytes.{Appends}
 use Rattle.lt_io.specs.Causes.{Rose}
 use Rattle.lt_io.specs.Bytes.{AppendsFront}
 use Rattle.lt_words.specs.declared.words.Command.{Command}
-use Rattle.lt_words.specs.Grammar.{InRange, words_of, FaultAt}
+use Rattle.lt_words.specs.Grammar.{InRange, Spells, FaultAt}
 use Rattle.ltypes.specs.declared.status.Cause.{Cause}
 use Rattle.ltypes.specs.declared.status.Cause.TheVariants.{Done, Words, Memory, WriteFault}
 use Rattle.ltypes.specs.Outputs.{IsOutput}
@@ -26,5 +26,5 @@ Answers IsText old new before now WriteFault = Rose before now × ((text : List 
 -- of their first fault, and nothing was written.
 abbrev pub AnswersWords : List (List ℕ) → Option (List ℕ) → Option (List ℕ) → ℕ → ℕ → Cause → Type 0
 AnswersWords words old new before now cause =
-    ((c : Command) × InRange c × (words ≡ words_of c) × Answers (IsOutput c) old new before now cause)
+    ((c : Command) × InRange c × Spells c words × Answers (IsOutput c) old new before now cause)
     ⊎ ((place : ℕ) × FaultAt words place × (cause ≡ Words place) × Appends old new [])

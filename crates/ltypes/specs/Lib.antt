@@ -1,4 +1,5 @@
 pub mod Texts
+pub mod Summaries
 pub mod Outputs
 pub mod Answers
 pub mod Laws

@@ -2,13 +2,14 @@ ghost use Rattle.std.specs.Prelude.{◌≡◌, ◌≤◌};
 ghost use Rattle.lt_words.specs.Grammar.{texts, IsDimension, InRange, place_of};
 ghost use Rattle.ltypes.specs.Texts.{code_of, err_text};
 ghost use Rattle.ltypes.specs.declared.status.Cause.TheVariants.{Words};
-ghost use Rattle.ltypes.specs.Outputs.{IsPrincipalText, IsOutput};
+ghost use Rattle.ltypes.specs.Outputs.{IsPrincipalText, IsSummary, IsOutput};
 ghost use Rattle.ltypes.specs.Answers.{Reports, Answers, AnswersWords};
 ghost use Rattle.ltypes.specs.Laws.{EveryCommandHasOneOutput};
 
 use crate::gate::Gate;
 use crate::printed::write_type;
 use crate::status::{Cause, Status};
+use crate::summary::{Start, write_summary};
 use lt_io::{Failed, Sink, Source};
 use lt_principal::{principal, principal_form};
 use lt_words::{Command, WordsError, read_words};
@@ -44,6 +45,33 @@ pub fn principal_command<K: Sink, E: Sink>(alloc: Global, d: u8, out: &mut K, er
     write_principal(alloc, d, out).report(err)
 }
 
+/// Writes the counts of the starting atlas.
+fn write_start<K: Sink>(alloc: Global, d: u8, out: &mut K) -> Cause
+    requires { IsDimension d }
+    ensures answer { Answers (IsSummary d) (K.held out.old) (K.held out.new) (K.faults out.old) (K.faults out.new) result }
+{
+    match Start::of(alloc, d) {
+        Err(_) => Cause::Memory,
+        Ok(start) => match write_summary(out, &start) {
+            Ok(()) => Cause::Done,
+            Err(Failed) => Cause::WriteFault,
+        },
+    }
+}
+
+/// The command `summary D`: the counts of the starting atlas of dimension `d`, 2 to 5, which has the principal type alone.
+///
+/// It writes to `out` a header, a line for the type with its number, classes, regulators, facets, crossed facets, open facets
+/// and weight, and a line of totals.
+pub fn summary_command<K: Sink, E: Sink>(alloc: Global, d: u8, out: &mut K, err: &mut E) -> Status
+    requires { IsDimension d }
+    ensures code { result.code ≡ code_of result.cause }
+    ensures answer { Answers (IsSummary d) (K.held out.old) (K.held out.new) (K.faults out.old) (K.faults out.new) result.cause }
+    ensures line { Reports (E.held err.old) (E.held err.new) (E.faults err.old) (E.faults err.new) (err_text result.cause) }
+{
+    write_start(alloc, d, out).report(err)
+}
+
 /// The work of a command.
 fn carry_out<K: Sink, E: Sink>(alloc: Global, command: Command, out: &mut K, err: &mut E) -> Status
     requires { InRange command }
@@ -53,6 +81,7 @@ fn carry_out<K: Sink, E: Sink>(alloc: Global, command: Command, out: &mut K, err
 {
     match command {
         Command::Principal { d } => principal_command(alloc, d, out, err),
+        Command::Summary { d } => summary_command(alloc, d, out, err),
     }
 }
 

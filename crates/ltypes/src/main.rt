@@ -5,8 +5,9 @@ mod command;
 mod gate;
 mod printed;
 mod status;
+mod summary;
 
-pub use command::{ltypes, outputs_are_exact, principal_command};
+pub use command::{ltypes, outputs_are_exact, principal_command, summary_command};
 pub use gate::{Gate, OpenGate};
 use lt_io::{LineSink, StdSink, StdSource};
 pub use status::{Cause, Status};

@@ -1,9 +1,6 @@
-use Rattle.std.proofs.Common.{arith, ◌≡◌, ◌∙◌, ◌*◌, ℕ, ℤ, List, [], get_or, length, sym, subst}
-use Rattle.lt_triang.specs.Kept.{dimension_of}
-use Rattle.std.proofs.lemmas.List.Elements.{Contains-get_or}
+use Rattle.std.proofs.Common.{ℕ, ℤ, List, sym, subst}
 use Rattle.lt_model.specs.Flat.{rows}
 use Rattle.lt_model.specs.Matrices.{IsInverse, Carries}
-use Rattle.lt_model.specs.Simplices.{IsClass}
 use Rattle.lt_model.specs.Triangulations.{IsDelaunay}
 use Rattle.lt_rows.proofs.Dimensions.{dimension}
 use Rattle.lt_rows.proofs.matching.image_by.Goals as goal

@@ -1,4 +1,3 @@
-use Rattle.std.proofs.Common.{pos}
 use Rattle.lt_model.specs.Principal.{principal_numbers}
 use Rattle.lt_triang.proofs.SomeForm.{some_form}
 use Rattle.lt_rows.proofs.regulators.principal_regulators.Goals as goal

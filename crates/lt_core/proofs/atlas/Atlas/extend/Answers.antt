@@ -40,7 +40,7 @@ invariant_of-self-2 c =
       queue = c.append_places.new.queue;
       log = c.push_within-3.new.all;
       undecided = c.self.inside.undecided - 1 + c.facets-facets.result;
-      stuck = c.self.inside.stuck
+      stuck = c.self.inside.stuck;
     })
     c.args.self.now c.args.position c.args.triangulation c.args.cone c.index.result.now c.in-Ok.row c.identity-matrix.result c.identity-noted.result c.put.new.marks c.facets-facets.result c.len-number.result
     c.len-number.ensures c.self.view_is c.self.invariant c.requires.here c.requires.candidate c.index.ensures refl c.identity-matrix.ensures c.identity-noted.ensures c.facets-facets.ensures.value
@@ -55,24 +55,25 @@ invariant_of-self-2 c =
 pub returns-clause-ok : goal.returns-clause-ok
 returns-clause-ok c =
     let entries = ap (λ (z : model.Atlas). length z.entries) c.self.view_is in
-    let number = length-map c.self.inside.entries.items entry_of in
-    (omega (arith, c.len-number.ensures, c.self.inside.entries.ok.0),
-     value_extended c.self.inside
-    (record {
-      dimension = c.self.inside.dimension;
-      entries = c.push_within.new.all;
-      marks = c.push_within-2.new.all;
-      queue = c.append_places.new.queue;
-      log = c.push_within-3.new.all;
-      undecided = c.self.inside.undecided - 1 + c.facets-facets.result;
-      stuck = c.self.inside.stuck
-    })
-    c.args.self.now c.args.position c.args.triangulation c.args.cone c.index.result.now c.in-Ok.row c.identity-matrix.result c.identity-noted.result c.put.new.marks c.facets-facets.result c.len-number.result
-    c.len-number.ensures c.self.view_is c.self.invariant c.requires.here c.requires.candidate c.index.ensures refl c.identity-matrix.ensures c.identity-noted.ensures c.facets-facets.ensures.value
-    (c.push_within.ensures.items ∙ (let e : Entry = record { triangulation = c.args.triangulation; cone = c.args.cone; origin = Some c.index.result.now } in ap (λ l. l ++ e ∷ []) c.make_room.ensures.entries.0))
-    (c.put.ensures.value ∙ ap (λ l. model.set_mark (marks_of l) c.index.result.now (model.cross c.len-number.result (matrix_rows c.identity-matrix.result))) c.make_room.ensures.marks.0)
-    c.push_within-2.ensures.items c.in-Ok.ensures
-    (c.append_places.ensures ∙ ap (λ l. l ++ model.places_from c.len-number.result 0 c.facets-facets.result) c.make_room.ensures.queue.0)
-    (c.push_within-3.ensures.items ∙ (let e : Event = record { position = c.args.position; mark = Cross c.len-number.result c.identity-noted.result; fresh = true } in ap (λ l. l ++ e ∷ []) c.make_room.ensures.log.0))
-    c.requires.few refl refl
-    (let room = c.in-Ok-make_room.ensures.ok in let sum = c.in-Some.ensures.1 in let more = c.push_within-3.ensures.capacity in let len = c.make_room.ensures.log.1 in omega arith))
+    let number = length-map c.self.inside.entries.items entry_of in (
+      omega (arith, c.len-number.ensures, c.self.inside.entries.ok.0),
+      value_extended c.self.inside
+          (record {
+            dimension = c.self.inside.dimension;
+            entries = c.push_within.new.all;
+            marks = c.push_within-2.new.all;
+            queue = c.append_places.new.queue;
+            log = c.push_within-3.new.all;
+            undecided = c.self.inside.undecided - 1 + c.facets-facets.result;
+            stuck = c.self.inside.stuck;
+          })
+          c.args.self.now c.args.position c.args.triangulation c.args.cone c.index.result.now c.in-Ok.row c.identity-matrix.result c.identity-noted.result c.put.new.marks c.facets-facets.result c.len-number.result
+          c.len-number.ensures c.self.view_is c.self.invariant c.requires.here c.requires.candidate c.index.ensures refl c.identity-matrix.ensures c.identity-noted.ensures c.facets-facets.ensures.value
+          (c.push_within.ensures.items ∙ (let e : Entry = record { triangulation = c.args.triangulation; cone = c.args.cone; origin = Some c.index.result.now } in ap (λ l. l ++ e ∷ []) c.make_room.ensures.entries.0))
+          (c.put.ensures.value ∙ ap (λ l. model.set_mark (marks_of l) c.index.result.now (model.cross c.len-number.result (matrix_rows c.identity-matrix.result))) c.make_room.ensures.marks.0)
+          c.push_within-2.ensures.items c.in-Ok.ensures
+          (c.append_places.ensures ∙ ap (λ l. l ++ model.places_from c.len-number.result 0 c.facets-facets.result) c.make_room.ensures.queue.0)
+          (c.push_within-3.ensures.items ∙ (let e : Event = record { position = c.args.position; mark = Cross c.len-number.result c.identity-noted.result; fresh = true } in ap (λ l. l ++ e ∷ []) c.make_room.ensures.log.0))
+          c.requires.few refl refl
+          (let room = c.in-Ok-make_room.ensures.ok in let sum = c.in-Some.ensures.1 in let more = c.push_within-3.ensures.capacity in let len = c.make_room.ensures.log.1 in omega arith),
+    )

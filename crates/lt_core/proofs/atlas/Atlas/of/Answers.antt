@@ -17,7 +17,7 @@ invariant_of-result c =
       queue = c.in_ok-queue.queue;
       log = c.reserve.new.self;
       undecided = c.len-undecided.result;
-      stuck = 0
+      stuck = 0;
     } in
     let hq : c.in_ok-queue.queue.items ≡ open_places 0 (marks_of c.args.marks.items) = c.in_ok-queue.ensures ∙ ap (λ l. open_places 0 (marks_of l)) c.deref.ensures.value in
     let hl : c.reserve.new.self.items ≡ [] = c.in_ok-reserve.ensures.items ∙ c.new-log.ensures.items in
@@ -36,7 +36,7 @@ returns c =
       queue = c.in_ok-queue.queue;
       log = c.reserve.new.self;
       undecided = c.len-undecided.result;
-      stuck = 0
+      stuck = 0;
     })
     (c.in_ok-queue.ensures ∙ ap (λ l. open_places 0 (marks_of l)) c.deref.ensures.value)
     (c.in_ok-reserve.ensures.items ∙ c.new-log.ensures.items)
