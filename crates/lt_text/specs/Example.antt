@@ -16,9 +16,9 @@ first = record {
   triangulation = ((pos 0 ∷ pos 0 ∷ []) ∷ (pos 0 ∷ pos 1 ∷ []) ∷ (pos 1 ∷ pos 1 ∷ []) ∷ []) ∷ ((pos 0 ∷ pos 0 ∷ []) ∷ (pos 1 ∷ pos 0 ∷ []) ∷ (pos 1 ∷ pos 1 ∷ []) ∷ []) ∷ [];
   cone = record {
     rows = facet (pos 0) (negsuc 0) (pos 0) (pos 1) (pos 0) (pos 1) ∷ facet (pos 0) (pos 1) (pos 2) (pos 2) (negsuc 1) (pos 1) ∷ facet (pos 2) (pos 1) (pos 0) (pos 1) (negsuc 1) (pos 2) ∷ [];
-    form = pos 1 ∷ negsuc 0 ∷ pos 1 ∷ []
+    form = pos 1 ∷ negsuc 0 ∷ pos 1 ∷ [];
   };
-  origin = None
+  origin = None;
 }
 
 abbrev example : Atlas
@@ -27,7 +27,7 @@ example = record {
   entries = first ∷ [];
   marks = (crossed (pos 1) (pos 0) (pos 1) (pos 1) ∷ crossed (pos 1) (pos 0) (negsuc 0) (pos 1) ∷ crossed (pos 0) (pos 1) (pos 1) (negsuc 0) ∷ []) ∷ [];
   queue = [];
-  log = []
+  log = [];
 }
 
 -- its 17 lines
