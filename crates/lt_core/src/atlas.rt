@@ -129,6 +129,14 @@ impl Atlas {
         self.marks[k as usize].len()
     }
 
+    /// The marks of the facets of the entry with the number `k`.
+    pub fn marks(&self, k: u32) -> &[Mark]
+        requires { k < length self.now.marks }
+        ensures { map mark_of result.now ≡ get_or self.now.marks k [] }
+    {
+        self.marks[k as usize].as_slice()
+    }
+
     /// The number of wide and heavy marks.
     pub fn stuck(&self) -> u64
         ensures { result ≡ stuck self.now.marks }

@@ -26,6 +26,11 @@ pub record Gathered (K : Type 0) : Type 0 where
   pub sink : K
   pub waiting : List ℕ
 
+-- the bytes that wait in a block, and how often it had no room
+pub record Waiting : Type 0 where
+  pub held : List ℕ
+  pub faults : ℕ
+
 -- a call that takes bytes to a buffer of this size
 pub record Takes {E : Type 0} (old new : Incoming) (size : ℕ) (result : Result ℕ E) : Type 0 where
   pub fails : IsErr result ↔ Contains old.fail old.calls

@@ -1,4 +1,3 @@
 pub mod Outputs
 pub mod SameFacets
 pub mod Starts
-pub mod Written

@@ -1,6 +1,6 @@
 //! The counts of the starting atlas.
 
-ghost use Rattle.std.specs.Prelude.{◌≡◌, ◌≤◌, ℕ, length, pos, IfOk};
+ghost use Rattle.std.specs.Prelude.{◌≡◌, ◌≤◌, ℕ, [], ◌∷◌, length, pos, IfOk};
 ghost use Rattle.std.specs.List.{All};
 ghost use Rattle.lt_io.specs.Causes.{HasCause};
 ghost use Rattle.lt_io.specs.Bytes.{Wrote};
@@ -30,7 +30,8 @@ pub struct NoStart;
 pub struct Start {
     triangulation: Triangulation,
     cone: Cone,
-    weight: i128,
+    /// The one number at the end of the type's line.
+    weight: [i128; 1],
 }
 
 impl Start {
@@ -39,7 +40,7 @@ impl Start {
         requires { IsDimension d }
         ensures principal { IfOk result (λ s. IsPrincipal d s.triangulation) }
         ensures cone { IfOk result (λ s. IsRightCone d s.triangulation s.cone) }
-        ensures weight { IfOk result (λ s. s.weight ≡ pos (weight_of d (normals_of s.cone.rows))) }
+        ensures weight { IfOk result (λ s. s.weight ≡ pos (weight_of d (normals_of s.cone.rows)) ∷ []) }
     {
         let Ok(triangulation) = principal(alloc, d) else {
             return Err(NoStart);
@@ -54,7 +55,7 @@ impl Start {
         Ok(Start {
             triangulation,
             cone,
-            weight: weight(normals.as_slice()),
+            weight: [weight(normals.as_slice())],
         })
     }
 }
@@ -77,9 +78,9 @@ fn write_entry<K: Sink>(
     classes: u64,
     regulators: u64,
     facets: u64,
-    weight: i128,
+    weight: &[i128],
 ) -> Result<(), Failed>
-    ensures bytes { (w : ℕ) → weight ≡ pos w → Wrote (K.held out.old) (K.held out.new) result (entry_line 0 classes regulators facets 0 facets w) }
+    ensures bytes { (w : ℕ) → weight.now ≡ pos w ∷ [] → Wrote (K.held out.old) (K.held out.new) result (entry_line 0 classes regulators facets 0 facets w) }
     ensures cause { HasCause (K.faults out.old) (K.faults out.new) result }
 {
     write_columns(
@@ -93,7 +94,7 @@ fn write_entry<K: Sink>(
             (8, facets),
         ],
     )?;
-    write_line(out, b"", &[weight])
+    write_line(out, b"", weight)
 }
 
 /// Writes a word and a count, with no end of line.
@@ -118,7 +119,7 @@ fn write_last<K: Sink>(out: &mut K, facets: u64) -> Result<(), Failed>
 
 /// Writes the summary of the atlas that has the principal type alone.
 pub fn write_summary<K: Sink>(out: &mut K, start: &Start) -> Result<(), Failed>
-    ensures bytes { (w : ℕ) → start.now.weight ≡ pos w → Wrote (K.held out.old) (K.held out.new) result (summary_text (length start.now.triangulation) (length start.now.cone.rows) (length (facets_of start.now.cone.rows)) w) }
+    ensures bytes { (w : ℕ) → start.now.weight ≡ pos w ∷ [] → Wrote (K.held out.old) (K.held out.new) result (summary_text (length start.now.triangulation) (length start.now.cone.rows) (length (facets_of start.now.cone.rows)) w) }
     ensures cause { HasCause (K.faults out.old) (K.faults out.new) result }
 {
     let facets = start.cone.facets() as u64;
@@ -132,7 +133,7 @@ pub fn write_summary<K: Sink>(out: &mut K, start: &Start) -> Result<(), Failed>
         start.triangulation.len() as u64,
         start.cone.regulators() as u64,
         facets,
-        start.weight,
+        &start.weight,
     )?;
     write_last(out, facets)
 }

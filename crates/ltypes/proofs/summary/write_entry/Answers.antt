@@ -1,5 +1,4 @@
 use Rattle.std.proofs.Common.{ℕ, ℤ, pos, List, [], ◌∷◌, subst}
-use Rattle.std.proofs.lemmas.Int.{to_z-of_z}
 use Rattle.std.proofs.lemmas.Result.{err_from_is_err_and}
 use Rattle.lt_io.specs.Bytes.{Wrote}
 use Rattle.lt_io.proofs.Compose.{wrote_front, wrote_then, front_of_more}
@@ -21,4 +20,4 @@ pub returns-clause-bytes : goal.returns-clause-bytes
 returns-clause-bytes g c =
     λ w is.
     wrote_then _ _ _ _ (columns (numbers c.args.classes c.args.regulators c.args.facets)) (line [] (pos w ∷ [])) c.in_ok-write_columns.ensures.bytes.whole
-    (subst (λ (z : ℤ). Wrote (g.K.Sink.held c.write_columns.new.out) (g.K.Sink.held c.write_line.new.sink) c.write_line.result (line [] (z ∷ []))) is (simp (to_z-of_z, c.ranges.weight) at c.write_line.ensures.bytes))
+    (subst (λ (zs : List ℤ). Wrote (g.K.Sink.held c.write_columns.new.out) (g.K.Sink.held c.write_line.new.sink) c.write_line.result (line [] zs)) is c.write_line.ensures.bytes)

@@ -1,5 +1,5 @@
 use Rattle.std.proofs.Common.{◌≡◌, ◌++◌, ◌+◌, take, length}
-use Rattle.ltypes.proofs.printed.push_point.Given as goal
+use Rattle.lt_text.proofs.classes.push_point.Given as goal
 
 abbrev pub invariant-loop-coord : goal.invariant-loop-coord
 invariant-loop-coord l = record {

@@ -1,0 +1,6 @@
+pub mod Composed
+pub mod EachEntry
+pub mod Lists
+pub mod Loops
+pub mod Spelt
+pub mod Squares

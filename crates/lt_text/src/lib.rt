@@ -1,0 +1,13 @@
+//! The text of an atlas, written without memory.
+#![tactic(auto)]
+
+mod atlases;
+mod classes;
+mod entries;
+mod gathering;
+mod marks;
+mod rows;
+mod starts;
+
+pub use atlases::{example_is_spelt, write_atlas};
+pub use classes::write_triangulation;
