@@ -1,5 +1,5 @@
 -- An atlas of dimension 2, all of whose facets are crossed, and its text.
-use Rattle.std.specs.Prelude.{◌≡◌, ℕ, ℤ, pos, negsuc, List, [], ◌∷◌, ◌++◌, codes}
+use Rattle.std.specs.Prelude.{◌≡◌, ℤ, pos, negsuc, [], ◌∷◌, codes}
 use Rattle.std.specs.declared.option.Option.TheVariants.{None}
 use Rattle.lt_model.specs.Cones.{wall, Row}
 use Rattle.lt_model.specs.Atlases.{Mark, cross, Entry, Atlas}

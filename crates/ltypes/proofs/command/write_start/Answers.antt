@@ -11,5 +11,5 @@ returns g c =
     let w = weight c.args.d (normals s.cone.rows) in
     let text = summary_text (length s.triangulation) (length s.cone.rows) (length (facets_of s.cone.rows)) w in
     record {
-      answer = (c.in-Err-write_summary.ensures.cause.failed, (text, (s.triangulation, s.cone, c.in-Ok.ensures.principal, c.in-Ok.ensures.cone, refl), (c.in-Err-write_summary.ensures.bytes w c.in-Ok.ensures.weight).front))
+      answer = (c.in-Err-write_summary.ensures.cause.failed, (text, (s.triangulation, s.cone, c.in-Ok.ensures.principal, c.in-Ok.ensures.cone, refl), (c.in-Err-write_summary.ensures.bytes w c.in-Ok.ensures.weight).front));
     }

@@ -1,4 +1,5 @@
 use Rattle.std.proofs.Common.{◌≡◌, ◌∙◌, ℕ, ℤ, pos, List, sym, ap, subst, [], ◌∷◌}
+use Rattle.std.specs.Int.{w128}
 use Rattle.std.proofs.lemmas.Int.{to_z-of_z}
 use Rattle.lt_model.specs.Cones.{IsRightCone, normals}
 use Rattle.lt_model.specs.Limits.{weight}
@@ -29,4 +30,4 @@ returns-clause-weight c =
     let all : AreRegulators d t ns = subst (λ (e : ℕ). AreRegulators e t ns) same c.in-Ok-regulators.ensures in
     let slice : c.as_slice.result.now ≡ ns = c.as_slice.ensures.value in
     let lengths : AreOfDimension d c.as_slice.result.now = subst (λ (l : List (List ℤ)). AreOfDimension d l) (sym slice) (regulator_lengths d (principal_numbers d) t ns c.in-Ok.ensures.delaunay all) in
-    ap (λ (z : ℤ). z ∷ []) (to_z-of_z {z = c.weight.result} c.weight.type_inv ∙ c.weight.ensures d lengths ∙ ap (λ (l : List (List ℤ)). pos (weight d l)) (slice ∙ one_list d t ns ms all right.regulators))
+    ap (λ (z : ℤ). z ∷ []) (to_z-of_z w128 c.weight.result c.weight.type_inv ∙ c.weight.ensures d lengths ∙ ap (λ (l : List (List ℤ)). pos (weight d l)) (slice ∙ one_list d t ns ms all right.regulators))
