@@ -64,7 +64,7 @@ row_of_wall (r ∷ rows) (suc k) d w h e = more r.verdict (row_of_wall rows k d 
     more (wall x) c = Contains-tail r.normal (facets_of rows) (get_or rows k d).normal c
     more (combination f ts) c = c
 
-normals_at : (rows : List Row) (k : ℕ) (d : Row) → k < length rows → get_or (normals rows) k [] ≡ (get_or rows k d).normal
+pub normals_at : (rows : List Row) (k : ℕ) (d : Row) → k < length rows → get_or (normals rows) k [] ≡ (get_or rows k d).normal
 normals_at [] k d h = absurd (omega arith)
 normals_at (r ∷ rows) zero d h = refl
 normals_at (r ∷ rows) (suc k) d h = normals_at rows k d (omega arith)
