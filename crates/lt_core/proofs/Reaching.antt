@@ -5,7 +5,7 @@ use Rattle.std.proofs.lemmas.Bool.{cases_eq}
 use Rattle.lt_model.specs.Walls.{IsFacet}
 use Rattle.lt_model.specs.Principal.{IsPrincipal}
 use Rattle.lt_model.specs.Matrices.{identity, AreEquivalent}
-use Rattle.lt_model.specs.Atlases.{Classes, Mark, cross, no_mark, Entry, Atlas, entry_at, mark_at, facets, facet_at}
+use Rattle.lt_model.specs.Atlases.{Classes, Mark, cross, Entry, Atlas, entry_at, mark_at, facets, facet_at}
 use Rattle.lt_model.specs.RightAtlases.{AreClasses, HasOrigin, IsCrossed, AreRight, IsRight, IsClosedAtlas}
 use Rattle.lt_model.specs.Reached.{IsReachedBy, start, next}
 use Rattle.lt_core.specs.Reached.{IsOneEntry}
@@ -21,9 +21,6 @@ classes_of_form d t (q, h) s m = ((h.members s).0 m).0
 pub one_principal : (d : ℕ) (t t' : Classes) → IsPrincipal d t → IsPrincipal d t' → t ≡ t'
 one_principal d t t' h k =
     same_members simplex_cmp simplex_cmp_total t t' h.ascending k.ascending (λ s. (λ m. (k.members s).1 ((h.members s).0 m), λ m. (h.members s).1 ((k.members s).0 m)))
-
-cross_is_some : (k : ℕ) (u : List (List ℤ)) → cross k u ≡ no_mark → ⊥
-cross_is_some k u e = cc
 
 module _ (Beyond : Classes → List ℤ → Classes → Type 0) (d : ℕ) (laws : AreCrossings Beyond d) where
   pub reached_form : (t : Classes) → IsReachedBy Beyond d t → HasForm d t

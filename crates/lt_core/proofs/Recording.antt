@@ -95,9 +95,6 @@ no_cross_more ms n q k u h e =
 open_no_cross : (k : ℕ) (u : List (List ℤ)) → open_mark ≡ cross k u → ⊥
 open_no_cross k u e = cc
 
-pub cross_is_some : (k : ℕ) (u : List (List ℤ)) → cross k u ≡ no_mark → ⊥
-cross_is_some k u e = cc
-
 pub cross_parts : (j k : ℕ) (u v : List (List ℤ)) → cross j u ≡ cross k v → (j ≡ k) × (u ≡ v)
 cross_parts j k u v e = (cc, cc)
 

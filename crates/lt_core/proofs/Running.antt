@@ -1,12 +1,12 @@
 -- An atlas on which positions are settled in their order: where the events stand, and which marks are open.
-use Rattle.std.proofs.Common.{◌≡◌, ◌≢◌, ℕ, zero, suc, ℤ, ◌+◌, ◌<◌, ◌≤◌, refl, ap, arith, sym, ◌∙◌, subst, List, [], ◌∷◌, ◌++◌, length, get_or, ◌↔◌, ◌⊎◌, inl, inr}
+use Rattle.std.proofs.Common.{◌≡◌, ℕ, suc, ℤ, ◌<◌, ◌≤◌, refl, ap, arith, sym, ◌∙◌, List, [], ◌∷◌, ◌++◌, length, ◌↔◌, ◌⊎◌, inl, inr}
 use Rattle.std.specs.Prelude.{true, false}
 use Rattle.std.proofs.lemmas.Bool.{cases_lt}
 use Rattle.std.proofs.lemmas.List.{get_or_append_left, get_or_at}
 use Rattle.lt_model.specs.Matrices.{identity}
-use Rattle.lt_model.specs.Atlases.{Classes, Mark, open_mark, cross, Entry, Event, Atlas, no_event, event_at, mark_at, place_at, push, grow, begin}
+use Rattle.lt_model.specs.Atlases.{Classes, Mark, cross, Entry, Event, Atlas, no_event, event_at, mark_at, place_at, push, grow, begin}
 use Rattle.lt_model.specs.RightAtlases.{IsOpenAt}
-use Rattle.lt_model.specs.Logs.{IsKept, IsLegal}
+use Rattle.lt_model.specs.Logs.{IsKept}
 use Rattle.lt_core.proofs.Undo.{length_more, cut_push, cut_grow}
 use Rattle.lt_core.proofs.Kept.{cause_not_open}
 

@@ -1,5 +1,5 @@
 -- What the type of an atlas keeps, read by the code and after each recording.
-use Rattle.std.proofs.Common.{◌≡◌, ℕ, ℤ, zero, suc, ◌+◌, ◌-◌, ◌^◌, ◌<◌, ◌≤◌, refl, ap, arith, sym, ◌∙◌, subst, List, [], ◌∷◌, ◌++◌, length, get_or, map, set, Vec, vec_capacity, vec_len}
+use Rattle.std.proofs.Common.{◌≡◌, ℕ, ℤ, zero, suc, ◌+◌, ◌-◌, ◌^◌, ◌<◌, ◌≤◌, refl, ap, arith, sym, ◌∙◌, subst, List, [], ◌∷◌, ◌++◌, length, get_or, map, Vec, vec_capacity, vec_len}
 use Rattle.std.proofs.lemmas.List.{get_or-map, length-map, map-append, map-id}
 use Rattle.std.specs.Prelude.{true, false, Bool}
 use Rattle.std.specs.declared.alloc.Global.{Global}
@@ -7,9 +7,9 @@ use Rattle.lt_model.specs.Walls.{IsAcross}
 use Rattle.lt_model.specs.Matrices.{identity}
 use Rattle.lt_model.specs.Atlases.{undecided, stuck, one_if_open, one_if_stuck}
 use Rattle.lt_model.specs.Atlases as model
-use Rattle.lt_model.specs.RightAtlases.{IsOrderly, IsOpenAt, AreRight, open_places, fresh_atlas}
+use Rattle.lt_model.specs.RightAtlases.{IsOpenAt, AreRight, open_places, fresh_atlas}
 use Rattle.lt_core.proofs.Starting.{kept_fresh, length-open_places}
-use Rattle.lt_model.specs.Logs.{IsCause, IsLegal, IsKept, IsCandidate}
+use Rattle.lt_model.specs.Logs.{IsLegal, IsCandidate}
 use Rattle.lt_core.proofs.Undo.{length_more, same_atlas}
 use Rattle.lt_core.proofs.Kept.{kept_push, kept_grow, cause_not_open, legal_new}
 use Rattle.lt_core.proofs.Counting.{count-set_mark, count-more, count-opens, open-opens}

@@ -1,6 +1,6 @@
 -- Entries that are to be appended.
 use Rattle.std.specs.Prelude.{ℕ, ℤ, List}
-use Rattle.std.specs.declared.option.Option.TheVariants.{Some, None}
+use Rattle.std.specs.declared.option.Option.TheVariants.{Some}
 use Rattle.lt_model.specs.Cones.{Cone}
 use Rattle.lt_model.specs.Atlases as model
 

@@ -4,3 +4,4 @@ pub mod Meaning
 pub mod Candidates
 pub mod Refusals
 pub mod Reached
+pub mod Laws

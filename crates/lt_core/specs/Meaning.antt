@@ -1,8 +1,8 @@
 -- What the fields of an atlas mean.
-use Rattle.std.specs.Prelude.{ℕ, ◌+◌, ◌≡◌, ◌≤◌, List, map, vec_capacity}
+use Rattle.std.specs.Prelude.{map, vec_capacity}
 use Rattle.lt_model.specs.Atlases as model
 use Rattle.lt_core.specs.declared.atlas.Atlas.TheInside.{Inside}
-use Rattle.lt_core.specs.Marks.{mark_of, marks_of, event_of, entry_of}
+use Rattle.lt_core.specs.Marks.{marks_of, event_of, entry_of}
 use Rattle.lt_core.specs.Sound.{IsSound}
 
 -- what the fields mean

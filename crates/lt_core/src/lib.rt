@@ -1,6 +1,8 @@
 //! The atlas of triangulations: entries, marks of their facets, the queue of open facets, and the log of what was recorded.
 #![tactic(auto)]
 
+ghost use Rattle.lt_core.specs.Laws.{EntriesAreReached, ClosedAtlasesAreComplete};
+
 mod atlas;
 mod lists;
 mod marks;
@@ -9,3 +11,10 @@ mod refusals;
 pub use atlas::Atlas;
 pub use marks::{Entry, Event, Mark};
 pub use refusals::{Already, Back, Missed, Why};
+
+/// Facet crossings reach each entry of an atlas from the first one; and where all facets are crossed, each triangulation
+/// that they reach is equivalent to exactly one entry.
+pub fn closed_atlases_are_complete()
+    ensures reached { EntriesAreReached }
+    ensures one { ClosedAtlasesAreComplete }
+{}

@@ -1,4 +1,4 @@
-use Rattle.std.proofs.Common.{ap, ◌∙◌, ◌≡◌}
+use Rattle.std.proofs.Common.{ap, ◌∙◌}
 use Rattle.lt_core.proofs.Writes.{open_pushed, open_passed}
 use Rattle.lt_core.proofs.lists.append_open.Goals as goal
 use Rattle.lt_core.proofs.lists.append_open.Goals.{then-is_open+in_ok-push, else-is_open}

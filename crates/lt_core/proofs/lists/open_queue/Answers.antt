@@ -1,4 +1,4 @@
-use Rattle.std.proofs.Common.{ap, ◌∙◌, sym, ◌≡◌, ◌<◌, ◌++◌, arith, length, map, take}
+use Rattle.std.proofs.Common.{ap, ◌∙◌, sym, ◌++◌, arith, length, map, take}
 use Rattle.lt_model.specs.RightAtlases.{open_in, open_places}
 use Rattle.lt_core.specs.Marks.{mark_of, marks_of}
 use Rattle.lt_core.proofs.Writes.{rows_more, row_few}

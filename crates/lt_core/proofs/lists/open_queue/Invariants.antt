@@ -1,4 +1,4 @@
-use Rattle.std.proofs.Common.{◌≡◌, map, take}
+use Rattle.std.proofs.Common.{◌≡◌, take}
 use Rattle.lt_model.specs.RightAtlases.{open_places}
 use Rattle.lt_core.specs.Marks.{marks_of}
 use Rattle.lt_core.proofs.lists.open_queue.Given as goal

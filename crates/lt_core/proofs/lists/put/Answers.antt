@@ -1,7 +1,6 @@
-use Rattle.std.proofs.Common.{◌<◌, arith, length}
+use Rattle.std.proofs.Common.{◌<◌, length}
 use Rattle.std.proofs.lemmas.List.{length-map}
 use Rattle.lt_core.proofs.Writes.{put_marks}
-use Rattle.lt_core.specs.Marks.{marks_of}
 use Rattle.lt_core.proofs.lists.put.Goals as goal
 
 pub returns-clause-value : goal.returns-clause-value

@@ -1,4 +1,4 @@
-use Rattle.std.proofs.Common.{◌≡◌, ◌<◌, ◌≤◌, ◌+◌, ◌-◌, ◌++◌, ◌∷◌, [], sym, ◌∙◌, ap, subst, length, arith, vec_len, vec_capacity, refl}
+use Rattle.std.proofs.Common.{◌+◌, ◌-◌, ◌++◌, ◌∷◌, [], ◌∙◌, ap, length, arith, vec_capacity, refl}
 use Rattle.std.specs.Prelude.{true}
 use Rattle.std.proofs.lemmas.List.{length-map}
 use Rattle.std.specs.declared.option.Option.TheVariants.{Some}
@@ -8,7 +8,7 @@ use Rattle.lt_core.specs.declared.marks.Event.{Event}
 use Rattle.lt_core.specs.declared.marks.Mark.TheVariants.{Cross}
 use Rattle.lt_core.specs.Marks.{marks_of, entry_of, matrix_rows}
 use Rattle.lt_core.specs.Meaning.{value_of}
-use Rattle.lt_core.proofs.Sounds.{entry_within, facet_within, some_open_here, open_inside, count_is, value_extended, keeps_extended}
+use Rattle.lt_core.proofs.Sounds.{entry_within, facet_within, some_open_here, open_inside, value_extended, keeps_extended}
 use Rattle.lt_core.proofs.atlas.Atlas.extend.Goals as goal
 
 pub overflow_sub-self : goal.overflow_sub-self

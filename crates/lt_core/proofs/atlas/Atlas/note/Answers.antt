@@ -1,4 +1,4 @@
-use Rattle.std.proofs.Common.{◌≡◌, ◌<◌, ◌≤◌, ◌-◌, ◌+◌, ℕ, sym, ◌∙◌, subst, ap, length, arith, vec_len, vec_capacity}
+use Rattle.std.proofs.Common.{◌<◌, ◌≤◌, ◌-◌, ◌+◌, ℕ, sym, ◌∙◌, subst, ap, arith, vec_len, vec_capacity}
 use Rattle.std.specs.Prelude.{false}
 use Rattle.lt_model.specs.Atlases as model
 use Rattle.std.proofs.lemmas.List.{length-map}

@@ -1,4 +1,4 @@
-use Rattle.std.proofs.Common.{◌≡◌, ◌≤◌, sym, ◌∙◌, ap, subst, arith, length, map, vec_len, vec_capacity, []}
+use Rattle.std.proofs.Common.{◌≡◌, ◌≤◌, sym, ◌∙◌, ap, subst, arith, length, map, vec_capacity, []}
 use Rattle.std.proofs.lemmas.List.{length-map}
 use Rattle.lt_model.specs.Atlases as model
 use Rattle.lt_model.specs.RightAtlases.{open_places}

@@ -1,4 +1,4 @@
-use Rattle.std.proofs.Common.{◌≡◌, ap, sym, ◌∙◌, ℕ}
+use Rattle.std.proofs.Common.{ap, sym, ◌∙◌, ℕ}
 use Rattle.lt_model.specs.Atlases as model
 use Rattle.lt_core.proofs.Sounds.{read_place, queued_inside}
 use Rattle.lt_core.proofs.atlas.Atlas.place.Goals as goal

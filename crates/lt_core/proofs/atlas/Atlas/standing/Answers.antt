@@ -1,7 +1,6 @@
-use Rattle.std.proofs.Common.{◌≡◌, ◌<◌, sym, ◌∙◌, subst, ap, length}
+use Rattle.std.proofs.Common.{◌∙◌, ap}
 use Rattle.lt_model.specs.Atlases as model
-use Rattle.lt_core.specs.Meaning.{value_of}
-use Rattle.lt_core.proofs.Sounds.{read_place, in_marks, in_row, read_mark, queued_inside}
+use Rattle.lt_core.proofs.Sounds.{in_marks, in_row, read_mark, queued_inside}
 use Rattle.lt_core.proofs.atlas.Atlas.standing.Goals as goal
 
 pub index-requires-2 : goal.index-requires-2
