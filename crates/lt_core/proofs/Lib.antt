@@ -10,4 +10,3 @@ pub mod Crossings
 pub mod Reaching
 pub mod Writes
 pub mod Sounds
-pub mod Running

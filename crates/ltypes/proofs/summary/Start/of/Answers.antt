@@ -1,6 +1,8 @@
-use Rattle.std.proofs.Common.{◌≡◌, ◌∙◌, ℕ, ℤ, pos, List, sym, ap, subst, [], ◌∷◌}
-use Rattle.std.specs.Int.{w128}
-use Rattle.std.proofs.lemmas.Int.{to_z-of_z}
+use Rattle.std.proofs.Common.{◌≡◌, ◌∙◌, ◌≤◌, ◌^◌, ℕ, ℤ, pos, List, [], ◌∷◌, sym, ap, subst, arith}
+use Rattle.std.proofs.lemmas.Int.{ints, to_z-of_z}
+use Rattle.std.proofs.Math.Nat.{min-le_left}
+use mir.Val.{SFits}
+use mir.Syntax.{w128}
 use Rattle.lt_model.specs.Cones.{IsRightCone, normals}
 use Rattle.lt_model.specs.Limits.{weight}
 use Rattle.lt_model.specs.Principal.{principal_numbers}
@@ -11,6 +13,9 @@ use Rattle.lt_tableau.specs.Errors.{AreOfDimension}
 use Rattle.lt_cone.proofs.RightCones.{one_list}
 use Rattle.ltypes.proofs.Starts.{regulator_lengths}
 use Rattle.ltypes.proofs.summary.Start.of.Goals as goal
+
+fits : (w : ℕ) → w ≤ 2 ^ 120 → SFits w128 (pos w)
+fits w h = omega (arith, ints, h)
 
 pub cone-requires : goal.cone-requires
 cone-requires c = some_form c.args.d (principal_numbers c.args.d) c.in-Ok.triangulation c.in-Ok.ensures.delaunay
@@ -30,4 +35,6 @@ returns-clause-weight c =
     let all : AreRegulators d t ns = subst (λ (e : ℕ). AreRegulators e t ns) same c.in-Ok-regulators.ensures in
     let slice : c.as_slice.result.now ≡ ns = c.as_slice.ensures.value in
     let lengths : AreOfDimension d c.as_slice.result.now = subst (λ (l : List (List ℤ)). AreOfDimension d l) (sym slice) (regulator_lengths d (principal_numbers d) t ns c.in-Ok.ensures.delaunay all) in
-    ap (λ (z : ℤ). z ∷ []) (to_z-of_z w128 c.weight.result c.weight.type_inv ∙ c.weight.ensures d lengths ∙ ap (λ (l : List (List ℤ)). pos (weight d l)) (slice ∙ one_list d t ns ms all right.regulators))
+    let is : c.weight.result ≡ pos (weight d ms) = c.weight.ensures d lengths ∙ ap (λ (l : List (List ℤ)). pos (weight d l)) (slice ∙ one_list d t ns ms all right.regulators) in
+    let small : weight d ms ≤ 2 ^ 120 = min-le_left (2 ^ 120) _ in
+    ap (λ (z : ℤ). z ∷ []) (rw is (to_z-of_z w128 (pos (weight d ms)) (fits (weight d ms) small)))
