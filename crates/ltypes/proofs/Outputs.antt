@@ -1,5 +1,5 @@
 -- Each command has one output.
-use Rattle.std.proofs.Common.{◌≡◌, ℕ, ℤ, List, [], length, sym, ap, ap₂, subst, ◌∙◌}
+use Rattle.std.proofs.Common.{◌≡◌, ℕ, ℤ, List, length, sym, ap, ap₂, subst, ◌∙◌}
 use Rattle.std.proofs.lemmas.List.{length-map}
 use Rattle.lt_model.specs.Order.{simplex_cmp}
 use Rattle.lt_model.specs.Atlases.{facets_of}

@@ -1,5 +1,5 @@
 -- Two right cones of a triangulation have the same facets.
-use Rattle.std.proofs.Common.{◌≡◌, ℕ, zero, suc, ℤ, ◌<◌, refl, ap, arith, sym, ◌∙◌, subst, List, [], ◌∷◌, length, get_or, map, Bool, true, false}
+use Rattle.std.proofs.Common.{◌≡◌, ℕ, suc, ℤ, ◌<◌, refl, ap, arith, sym, ◌∙◌, subst, List, [], ◌∷◌, length, get_or, Bool, true, false}
 use Rattle.std.proofs.lemmas.List.{length-map}
 use Rattle.lt_model.specs.Order.{number_list_cmp}
 use Rattle.lt_model.specs.Cones.{Verdict, wall, combination, Row, Cone, IsRightCone, normals}
