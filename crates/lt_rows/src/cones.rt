@@ -5,12 +5,13 @@ ghost use Rattle.lt_model.specs.Walls.{IsFacet};
 ghost use Rattle.lt_triang.specs.Kept.{dimension_of, IsOfSomeForm};
 
 use crate::matching::principal_of;
-use lt_cone::cone;
+use lt_cone::{ConeFault, check_cone, cone};
 use lt_lattice::{Form, Normal};
-use lt_lp::{Cone, Verdict};
+use lt_lp::{Cone, Row, Verdict};
 use lt_triang::Triangulation;
-use std::alloc::Global;
+use std::alloc::{AllocError, Global};
 use std::process::Abort;
+use std::test::Fail;
 
 /// The cone of a triangulation.
 fn cone_of(rt: &impl Abort, alloc: Global, t: &Triangulation) -> Cone
@@ -64,4 +65,38 @@ fn the_cone_of_the_plane_has_three_walls(rt: HostRuntime) {
         }
     }
     assert!(rt; found.form == Form::of(2, &[1, -1, 1]));
+}
+
+/// The cone of the principal type of dimension 2 with this form as the wall of its first row.
+fn plane_cone(alloc: Global, first: Form) -> Result<Cone, AllocError> {
+    let mut rows = Vec::new(alloc);
+    rows.push(Row {
+        normal: Normal::of(2, &[0, -1, 0]),
+        verdict: Verdict::Wall(first),
+    })?;
+    rows.push(Row {
+        normal: Normal::of(2, &[0, 1, 2]),
+        verdict: Verdict::Wall(Form::of(2, &[2, -2, 1])),
+    })?;
+    rows.push(Row {
+        normal: Normal::of(2, &[2, 1, 0]),
+        verdict: Verdict::Wall(Form::of(2, &[1, -2, 2])),
+    })?;
+    Ok(Cone {
+        rows,
+        form: Form::of(2, &[1, -1, 1]),
+    })
+}
+
+#[test]
+fn a_wrong_first_wall_is_named(rt: HostRuntime) -> Result<(), Fail> {
+    let t = principal_of(&rt, rt.alloc(), 2);
+    let right = plane_cone(rt.alloc(), Form::of(2, &[1, 0, 1]))?;
+    assert!(rt; check_cone(rt.alloc(), &t, &right).is_ok());
+    let wrong = plane_cone(rt.alloc(), Form::of(2, &[1, 0, 0]))?;
+    match check_cone(rt.alloc(), &t, &wrong) {
+        Err(ConeFault::Wrong { row }) => assert_eq!(rt; row, 0),
+        _ => assert!(rt; false),
+    }
+    Ok(())
 }

@@ -7,6 +7,7 @@ use crate::cones::facet;
 use crate::matching::{image_by, is_class, principal_of};
 use lt_flip::{FlipError, cells, flip};
 use lt_lattice::{Matrix, Normal, Point};
+use lt_match::match_types;
 use lt_triang::Triangulation;
 use std::alloc::Global;
 use std::process::Abort;
@@ -48,6 +49,72 @@ fn a_square_is_the_cell_of_the_plane(rt: HostRuntime) {
         }
         Err(_) => assert!(rt; false),
     }
+}
+
+/// Whether these two classes, by their vertices behind 0, lie across the facet at place `i` of the principal type of dimension 2,
+/// and the matrix is the first that carries them onto it.
+fn lie_across(
+    rt: &impl Abort,
+    alloc: Global,
+    i: usize,
+    first: (Point, Point),
+    second: (Point, Point),
+    matrix: &Matrix,
+) -> bool {
+    let t = principal_of(rt, alloc, 2);
+    let n = facet(rt, alloc, &t, i);
+    match flip(alloc, &t, &n) {
+        Ok(across) => {
+            if across.len() != 2 {
+                return false;
+            }
+            if !is_class(across.class(0), Point::of(&[0, 0]), first.0, first.1) {
+                return false;
+            }
+            if !is_class(across.class(1), Point::of(&[0, 0]), second.0, second.1) {
+                return false;
+            }
+            match match_types(alloc, &across, &t) {
+                Ok(Some(u)) => u == *matrix,
+                _ => false,
+            }
+        }
+        Err(_) => false,
+    }
+}
+
+#[test]
+fn across_the_facets_of_the_plane_lies_its_type(rt: HostRuntime) {
+    assert!(rt;
+        lie_across(
+            &rt,
+            rt.alloc(),
+            0,
+            (Point::of(&[0, 1]), Point::of(&[1, 0])),
+            (Point::of(&[1, -1]), Point::of(&[1, 0])),
+            &Matrix::of(2, &[1, 0, 1, 1])
+        )
+    );
+    assert!(rt;
+        lie_across(
+            &rt,
+            rt.alloc(),
+            1,
+            (Point::of(&[0, 1]), Point::of(&[1, 2])),
+            (Point::of(&[1, 1]), Point::of(&[1, 2])),
+            &Matrix::of(2, &[1, 0, -1, 1])
+        )
+    );
+    assert!(rt;
+        lie_across(
+            &rt,
+            rt.alloc(),
+            2,
+            (Point::of(&[1, 0]), Point::of(&[2, 1])),
+            (Point::of(&[1, 1]), Point::of(&[2, 1])),
+            &Matrix::of(2, &[0, 1, 1, -1])
+        )
+    );
 }
 
 #[test]
