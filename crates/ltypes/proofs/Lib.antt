@@ -1,3 +1,4 @@
+pub mod Light
 pub mod Outputs
 pub mod SameFacets
 pub mod Starts

@@ -11,7 +11,7 @@ ghost use Rattle.lt_model.specs.Principal.{IsPrincipal};
 ghost use Rattle.lt_words.specs.Grammar.{IsDimension};
 ghost use Rattle.ltypes.specs.Summaries.{columns, entry_line, named, last_line, summary_text};
 
-use lt_cone::cone;
+use lt_cone::{ConeError, cone};
 use lt_io::{Failed, Sink, write_all};
 use lt_lines::{write_count, write_line, write_part, write_right};
 use lt_lp::Cone;
@@ -48,9 +48,11 @@ impl Start {
         let Ok(normals) = regulators(alloc, &triangulation) else {
             return Err(NoStart);
         };
-        // No principal type is heavy.
-        let Ok(cone) = cone(alloc, &triangulation) else {
-            return Err(NoStart);
+        let cone = match cone(alloc, &triangulation) {
+            Ok(cone) => cone,
+            Err(ConeError::Memory) => return Err(NoStart),
+            // No principal type is heavy.
+            Err(ConeError::Heavy { .. }) => unreachable!(),
         };
         Ok(Start {
             triangulation,

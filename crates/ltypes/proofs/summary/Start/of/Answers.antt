@@ -4,13 +4,17 @@ use Rattle.std.proofs.Math.Nat.{min-le_left}
 use mir.Val.{SFits}
 use mir.Syntax.{w128}
 use Rattle.lt_model.specs.Cones.{IsRightCone, normals}
-use Rattle.lt_model.specs.Limits.{weight}
+use Rattle.lt_model.specs.Limits.{weight, weight_limit}
 use Rattle.lt_model.specs.Principal.{principal_numbers}
 use Rattle.lt_model.specs.Walls.{AreRegulators}
 use Rattle.lt_triang.specs.Kept.{dimension_of}
 use Rattle.lt_triang.proofs.SomeForm.{delaunay_dimension, some_form}
 use Rattle.lt_tableau.specs.Errors.{AreOfDimension}
+use Rattle.lt_cone.specs.declared.error.ConeError.{ConeError}
+use Rattle.lt_cone.specs.declared.error.ConeError.TheVariants.{Heavy}
+use Rattle.lt_cone.specs.Errors.{IsHeavyCone}
 use Rattle.lt_cone.proofs.RightCones.{one_list}
+use Rattle.ltypes.proofs.Light.{principal_is_light}
 use Rattle.ltypes.proofs.Starts.{regulator_lengths}
 use Rattle.ltypes.proofs.summary.Start.of.Goals as goal
 
@@ -19,6 +23,18 @@ fits w h = omega (arith, ints, h)
 
 pub cone-requires : goal.cone-requires
 cone-requires c = some_form c.args.d (principal_numbers c.args.d) c.in-Ok.triangulation c.in-Ok.ensures.delaunay
+
+pub unreachable-requires : goal.unreachable-requires
+unreachable-requires c =
+    let d = c.args.d in
+    let t = c.in-Ok.triangulation in
+    let ns = c.in-Ok-regulators.normals.items in
+    let same : dimension_of t ≡ d = sym (delaunay_dimension d (principal_numbers d) t c.in-Ok.ensures.delaunay) in
+    let all : AreRegulators d t ns = subst (λ (e : ℕ). AreRegulators e t ns) same c.in-Ok-regulators.ensures in
+    let heavy : IsHeavyCone (weight (dimension_of t) ns) (Heavy c.in-Err-Heavy.field-0-0) = subst (λ (e : ConeError). IsHeavyCone (weight (dimension_of t) ns) e) c.in-Err-Heavy.field-0-is (c.in-Err-Heavy.ensures.heavy ns c.in-Ok-regulators.ensures) in
+    let above : weight_limit ≤ weight d ns = subst (λ (e : ℕ). weight_limit ≤ weight e ns) same heavy.1 in
+    let below = principal_is_light d t ns c.requires c.in-Ok.ensures.principal all in
+    omega (arith, above, below)
 
 pub returns-clause-cone : goal.returns-clause-cone
 returns-clause-cone c =
