@@ -1,8 +1,10 @@
 -- Laws on what commands write.
 use Rattle.std.specs.Prelude.{◌≡◌, ℕ, List}
-use Rattle.lt_words.specs.declared.words.Command.{Command}
-use Rattle.ltypes.specs.Outputs.{IsOutput}
+use Rattle.ltypes.specs.Outputs.{IsPrincipalText, IsSummary}
 
--- a command has one output
-abbrev pub EveryCommandHasOneOutput : Type 0
-EveryCommandHasOneOutput = (c : Command) (x y : List ℕ) → IsOutput c x → IsOutput c y → x ≡ y
+abbrev pub IsOneText : (List ℕ → Type 0) → Type 0
+IsOneText IsText = (x y : List ℕ) → IsText x → IsText y → x ≡ y
+
+-- in each dimension there is one principal triangulation to print, and one summary
+abbrev pub EachOutputIsOne : Type 0
+EachOutputIsOne = (d : ℕ) → IsOneText (IsPrincipalText d) × IsOneText (IsSummary d)

@@ -1,11 +1,9 @@
--- The whole output of each command.
+-- The whole output of the commands that print counts and lists.
 use Rattle.std.specs.Prelude.{◌≡◌, ℕ, ℤ, List, length}
 use Rattle.lt_model.specs.Atlases.{facets_of}
 use Rattle.lt_model.specs.Cones.{Cone, IsRightCone, normals}
 use Rattle.lt_model.specs.Limits.{weight}
 use Rattle.lt_model.specs.Principal.{IsPrincipal, principal_numbers}
-use Rattle.lt_words.specs.declared.words.Command.{Command}
-use Rattle.lt_words.specs.declared.words.Command.TheVariants.{Principal, Summary}
 use Rattle.ltypes.specs.Texts.{type_text}
 use Rattle.ltypes.specs.Summaries.{summary_text}
 
@@ -19,8 +17,3 @@ abbrev pub IsSummary : ℕ → List ℕ → Type 0
 IsSummary d text =
     (t : List (List (List ℤ))) × (c : Cone) × IsPrincipal d t × IsRightCone d t c
     × (text ≡ summary_text (length t) (length c.rows) (length (facets_of c.rows)) (weight d (normals c.rows)))
-
--- the output of a command
-abbrev pub IsOutput : Command → List ℕ → Type 0
-IsOutput (Principal d) text = IsPrincipalText d text
-IsOutput (Summary d) text = IsSummary d text

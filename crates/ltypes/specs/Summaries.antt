@@ -1,7 +1,8 @@
 -- The lines of a summary.
 use Rattle.std.specs.Prelude.{ℕ, pos, List, [], ◌∷◌, ◌++◌, codes}
 use Rattle.std.specs.List.{flat_map}
-use Rattle.lt_lines.specs.Lines.{behind_spaces, line, right_in}
+use Rattle.lt_lines.specs.Lines.{line, right_in}
+use Rattle.ltypes.specs.Texts.{named}
 
 -- numbers that stand right, each in so many places
 abbrev pub columns : List (ℕ × ℕ) → List ℕ
@@ -15,10 +16,6 @@ header = line (codes "  type simplices regulators facets crossed    open weight"
 abbrev pub entry_line : (entry classes regulators facets crossed opened weight : ℕ) → List ℕ
 entry_line entry classes regulators facets crossed opened weight =
     columns ((6, entry) ∷ (10, classes) ∷ (11, regulators) ∷ (7, facets) ∷ (8, crossed) ∷ (8, opened) ∷ []) ++ line [] (pos weight ∷ [])
-
--- a word and a number, with no end of line
-abbrev pub named : List ℕ → ℕ → List ℕ
-named word n = word ++ behind_spaces (pos n ∷ [])
 
 -- the last line: entries, facets, and marks that are crossed and undecided
 abbrev pub last_line : (entries facets crossed undecided : ℕ) → List ℕ

@@ -1,24 +1,36 @@
 -- The lines that commands write to out, and the line that a cause writes to err.
 use Rattle.std.specs.Prelude.{ℕ, ℤ, pos, List, [], ◌∷◌, ◌++◌, codes}
-use Rattle.lt_lines.specs.Lines.{line}
+use Rattle.lt_lines.specs.Lines.{behind_spaces, line}
 use Rattle.lt_text.specs.Texts.{triangulation_text}
 use Rattle.ltypes.specs.declared.status.Cause.{Cause}
-use Rattle.ltypes.specs.declared.status.Cause.TheVariants.{Done, Words, Memory, WriteFault}
+use Rattle.ltypes.specs.declared.status.Cause.TheVariants.{Finished, Done, Unfinished, Words, Memory, WriteFault}
 
 -- the dimension, the form, the number of classes, and the classes
 abbrev pub type_text : ℕ → List ℤ → List (List (List ℤ)) → List ℕ
 type_text d form t = line (codes "dimension") (pos d ∷ []) ++ line (codes "form") form ++ triangulation_text t
 
+-- a word and a number, with no end of line
+abbrev pub named : List ℕ → ℕ → List ℕ
+named word n = word ++ behind_spaces (pos n ∷ [])
+
 -- the number of a cause
 abbrev pub code_of : Cause → ℕ
+code_of Finished = 0
 code_of Done = 0
+code_of (Unfinished s o) = 1
 code_of (Words place) = 2
 code_of Memory = 4
 code_of WriteFault = 6
 
--- the line of a cause; Done has none
+-- the numbers of wide and heavy marks, and of open ones
+abbrev pub unfinished_line : ℕ → ℕ → List ℕ
+unfinished_line s o = named (codes "unfinished: stuck") s ++ line (codes " undecided") (pos o ∷ [])
+
+-- the line of a cause; Finished and Done have none
 abbrev pub err_text : Cause → List ℕ
+err_text Finished = []
 err_text Done = []
+err_text (Unfinished s o) = unfinished_line s o
 err_text (Words place) = line (codes "words: place") (pos place ∷ [])
 err_text Memory = line (codes "memory") []
 err_text WriteFault = line (codes "write fault") []

@@ -1,17 +1,27 @@
 ghost use Rattle.std.specs.Prelude.{◌≡◌};
 ghost use Rattle.lt_io.specs.Causes.{HasCause};
 ghost use Rattle.lt_io.specs.Bytes.{Wrote};
-ghost use Rattle.ltypes.specs.Texts.{code_of, err_text};
+ghost use Rattle.ltypes.specs.Texts.{code_of, err_text, unfinished_line};
 ghost use Rattle.ltypes.specs.Answers.{Reports};
 
+use crate::printed::write_named;
 use lt_io::{Failed, Sink};
 use lt_lines::{write_count, write_line};
 
-/// Why the program ends.
+/// Why the program ends. The number of each stands at `Status::code`.
 #[derive(Clone, Copy, Debug, PartialEq, Eq, Drop)]
 pub enum Cause {
-    /// The whole output was written.
+    /// `run`: every facet of the written atlas is crossed.
+    Finished,
+    /// Another command wrote its whole output.
     Done,
+    /// `run`: memory was not refused, and some facet of the written atlas is not crossed.
+    Unfinished {
+        /// The number of wide and heavy marks.
+        stuck: u64,
+        /// The number of open marks.
+        undecided: u64,
+    },
     /// The words are no command: the first fault stands at `place`, counted from 0.
     Words { place: u32 },
     /// Memory was refused.
@@ -28,13 +38,23 @@ pub struct Status {
     pub cause: Cause,
 }
 
+/// Writes the line of a run that is not finished.
+fn write_unfinished<E: Sink>(err: &mut E, stuck: u64, undecided: u64) -> Result<(), Failed>
+    ensures bytes { Wrote (E.held err.old) (E.held err.new) result (unfinished_line stuck undecided) }
+    ensures cause { HasCause (E.faults err.old) (E.faults err.new) result }
+{
+    write_named(err, b"unfinished: stuck", stuck)?;
+    write_count(err, b" undecided", undecided)
+}
+
 impl Cause {
     /// The number of the cause.
     pub fn code(self) -> u8
         ensures { result ≡ code_of self }
     {
         match self {
-            Cause::Done => 0,
+            Cause::Finished | Cause::Done => 0,
+            Cause::Unfinished { .. } => 1,
             Cause::Words { place: _ } => 2,
             Cause::Memory => 4,
             Cause::WriteFault => 6,
@@ -47,7 +67,8 @@ impl Cause {
         ensures cause { HasCause (E.faults err.old) (E.faults err.new) result }
     {
         match self {
-            Cause::Done => Ok(()),
+            Cause::Finished | Cause::Done => Ok(()),
+            Cause::Unfinished { stuck, undecided } => write_unfinished(err, stuck, undecided),
             Cause::Words { place } => write_count(err, b"words: place", place as u64),
             Cause::Memory => write_line(err, b"memory", &[]),
             Cause::WriteFault => write_line(err, b"write fault", &[]),

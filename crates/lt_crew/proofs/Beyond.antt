@@ -1,0 +1,99 @@
+-- What the flip, the matching and the cone say of the triangulation across a facet, in the words of the atlas.
+use Rattle.std.proofs.Common.{◌≡◌, ℕ, zero, suc, ℤ, pos, ◌*◌, ◌<◌, ◌≤◌, refl, arith, sym, ap, ◌∙◌, subst, List, [], length, take}
+use Rattle.std.specs.Prelude.{false}
+use Rattle.std.proofs.lemmas.List.{take_all}
+use Rattle.lt_model.specs.Flat.{rows}
+use Rattle.lt_model.specs.Limits.{span, span_limit}
+use Rattle.lt_model.specs.Triangulations.{IsDelaunay}
+use Rattle.lt_model.specs.Walls.{IsFacet, IsAcross}
+use Rattle.lt_model.specs.Matrices.{AreEquivalent}
+use Rattle.lt_model.specs.Atlases.{Classes, Entry, Atlas, cross, wide, heavy, entry_at, place_at, facet_at}
+use Rattle.lt_model.specs.RightAtlases.{IsOpenAt}
+use Rattle.lt_model.specs.Logs.{IsKnown, IsWide, IsHeavy, IsLegal, IsStuck, IsUnlikeAll}
+use Rattle.lt_triang.specs.Kept.{dimension_of, IsOfSomeForm}
+use Rattle.lt_flip.specs.Flipped.{IsWideFlip}
+use Rattle.lt_match.specs.Matches.{IsFirstMatch}
+use Rattle.lt_geometry.proofs.FlipOf.{flips_are_across}
+use Rattle.lt_core.specs.Marks.{matrix_rows, side}
+use Rattle.lt_crew.specs.Settled.{LiesAcross, IsNarrow, IsFirstKnown}
+
+-- the triangulation t and the normal n that stand at position p, in dimension d
+pub record StandsAt (a : Atlas) (p : ℕ) (d : ℕ) (t : Classes) (n : List ℤ) : Type 0 where
+  pub dimension : d ≡ a.dimension
+  pub triangulation : t ≡ (entry_at a.entries (place_at a.queue p).0).triangulation
+  pub normal : n ≡ facet_at a.entries (place_at a.queue p)
+
+pub lies_across : (a : Atlas) (p d : ℕ) (t r : Classes) (n : List ℤ) → StandsAt a p d t n → IsAcross d t n r → LiesAcross a p r
+lies_across a p d t r n s h =
+    let one = subst (λ (z : ℕ). IsAcross z t n r) s.dimension h in
+    let two = subst (λ (z : Classes). IsAcross a.dimension z n r) s.triangulation one in
+    subst (λ (z : List ℤ). IsAcross a.dimension (entry_at a.entries (place_at a.queue p).0).triangulation z r) s.normal two
+
+pub facet_here : (a : Atlas) (p d : ℕ) (t : Classes) (n : List ℤ) → StandsAt a p d t n → IsFacet a.dimension (entry_at a.entries (place_at a.queue p).0).triangulation (facet_at a.entries (place_at a.queue p)) → IsFacet d t n
+facet_here a p d t n s h =
+    let one = subst (λ (z : ℕ). IsFacet z (entry_at a.entries (place_at a.queue p).0).triangulation (facet_at a.entries (place_at a.queue p))) (sym s.dimension) h in
+    let two = subst (λ (z : Classes). IsFacet d z (facet_at a.entries (place_at a.queue p))) (sym s.triangulation) one in
+    subst (λ (z : List ℤ). IsFacet d t z) (sym s.normal) two
+
+pub narrow_here : (a : Atlas) (p d : ℕ) (t r : Classes) (n : List ℤ) → StandsAt a p d t n → dimension_of r ≡ d → IsOfSomeForm r → span r ≤ span_limit d → IsNarrow a.dimension r
+narrow_here a p d t r n s e f l = record { dimension = e ∙ s.dimension; delaunay = f; narrow = subst (λ (z : ℕ). span r ≤ span_limit z) s.dimension l }
+
+-- a flip that is too wide
+pub wide_here : (a : Atlas) (p : ℕ) (t : Classes) (n : List ℤ) (s : List (List ℤ)) (c : ℤ) → StandsAt a p (dimension_of t) t n → 2 ≤ a.dimension → IsOfSomeForm t → IsFacet (dimension_of t) t n → IsWideFlip (dimension_of t) t n s c →
+    (r : Classes) × (k : ℕ) × LiesAcross a p r × IsWide a.dimension r s k × (c ≡ pos k)
+wide_here a p t n s c h low f facet w =
+    let d : ℕ = dimension_of t in
+    let two : 2 ≤ d = omega (arith, low, h.dimension) in
+    let e : d ≡ a.dimension = h.dimension in
+    (w.flipped, _, lies_across a p d t w.flipped n h (flips_are_across d f.0 n t w.flipped two f.1 facet w.flip),
+    record {
+      place = w.place;
+      within = w.first.place;
+      member = sym w.class_is;
+      above = rw w.class_is (subst (λ (z : ℕ). span_limit z < _) e w.first.wide);
+      first = λ i l. subst (λ (z : ℕ). _ ≤ span_limit z) e (w.first.before i l);
+      number = refl;
+    }, w.span_is)
+
+-- ---- matrices
+
+sides : (d : ℕ) (u : List ℤ) → 2 ≤ d → d ≤ 6 → rows (side (d * d)) u ≡ rows d u
+sides zero u l h = absurd (omega (arith, l))
+sides (suc zero) u l h = absurd (omega (arith, l))
+sides (suc (suc zero)) u l h = refl
+sides (suc (suc (suc zero))) u l h = refl
+sides (suc (suc (suc (suc zero)))) u l h = refl
+sides (suc (suc (suc (suc (suc zero))))) u l h = refl
+sides (suc (suc (suc (suc (suc (suc zero)))))) u l h = refl
+sides (suc (suc (suc (suc (suc (suc (suc d))))))) u l h = absurd (omega (arith, h))
+
+pub square_rows : (d : ℕ) (u : List ℤ) → 2 ≤ d → d ≤ 6 → length u ≡ d * d → matrix_rows u ≡ rows d u
+square_rows d u l h e = ap (λ n. rows (side n) u) e ∙ sides d u l h
+
+-- a match of the triangulation with entry k
+pub first_known : (a : Atlas) (t r : Classes) (k : ℕ) (u : List ℤ) → 2 ≤ a.dimension → a.dimension ≤ 6 → IsNarrow a.dimension t → k < length a.entries → r ≡ (entry_at a.entries k).triangulation → length u ≡ dimension_of t * dimension_of t → IsFirstMatch (dimension_of t) t r (rows (dimension_of t) u) →
+    ((i : ℕ) → i < k → AreEquivalent a.dimension t (entry_at a.entries i).triangulation → ⊥) → IsFirstKnown a t k (matrix_rows u)
+first_known a t r k u low high n l e c m before = record { present = l; first = there; before = before } where
+  long : length u ≡ a.dimension * a.dimension
+  long = subst (λ (z : ℕ). length u ≡ z * z) n.dimension c
+
+  here : IsFirstMatch a.dimension t r (rows a.dimension u)
+  here = subst (λ (z : ℕ). IsFirstMatch z t r (rows z u)) n.dimension m
+
+  there : IsFirstMatch a.dimension t (entry_at a.entries k).triangulation (matrix_rows u)
+  there = subst (λ (z : List (List ℤ)). IsFirstMatch a.dimension t (entry_at a.entries k).triangulation z) (sym (square_rows a.dimension u low high long)) (subst (λ (z : Classes). IsFirstMatch a.dimension t z (rows a.dimension u)) e here)
+
+pub no_match : (a : Atlas) (t r : Classes) (k : ℕ) → IsNarrow a.dimension t → r ≡ (entry_at a.entries k).triangulation → (AreEquivalent (dimension_of t) t r → ⊥) → AreEquivalent a.dimension t (entry_at a.entries k).triangulation → ⊥
+no_match a t r k n e no h =
+    no (subst (λ (z : Classes). AreEquivalent (dimension_of t) t z) (sym e) (subst (λ (z : ℕ). AreEquivalent z t (entry_at a.entries k).triangulation) (sym n.dimension) h))
+
+-- ---- events
+
+pub known_is_legal : (a : Atlas) (p : ℕ) (t : Classes) (k : ℕ) (u : List (List ℤ)) → IsOpenAt a p → LiesAcross a p t → IsNarrow a.dimension t → IsFirstKnown a t k u → IsLegal (IsAcross a.dimension) a a.entries (record { position = p; mark = cross k u; fresh = false })
+known_is_legal a p t k u o x n f = record { position = o; across = t; is_across = x; cause = record { present = f.present; narrow = n.narrow; carries = f.first.first.«match».carries } }
+
+pub wide_is_stuck : (a : Atlas) (p tested : ℕ) (t : Classes) (s : List (List ℤ)) (k : ℕ) → LiesAcross a p t → IsWide a.dimension t s k → IsStuck (IsAcross a.dimension) a p tested (wide s k)
+wide_is_stuck a p tested t s k x w = record { no_cross = tt; across = t; is_across = x; cause = w }
+
+pub heavy_is_stuck : (a : Atlas) (p : ℕ) (t : Classes) (w : ℕ) → LiesAcross a p t → IsHeavy a.dimension a.entries t w → IsStuck (IsAcross a.dimension) a p (length a.entries) (heavy w)
+heavy_is_stuck a p t w x h = record { no_cross = tt; across = t; is_across = x; cause = subst (λ (es : List Entry). IsHeavy a.dimension es t w) (sym (take_all (length a.entries) a.entries (omega arith))) h }

@@ -1,0 +1,8 @@
+//! Settling the positions of an atlas's queue: each facet is crossed, and the triangulation beyond it is recorded.
+#![tactic(auto)]
+
+mod running;
+mod settling;
+
+pub use running::{Ended, run_alone};
+pub use settling::settle;
