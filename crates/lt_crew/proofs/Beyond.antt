@@ -1,9 +1,9 @@
 -- What the flip, the matching and the cone say of the triangulation across a facet, in the words of the atlas.
-use Rattle.std.proofs.Common.{◌≡◌, ℕ, zero, suc, ℤ, pos, ◌*◌, ◌<◌, ◌≤◌, refl, arith, sym, ap, ◌∙◌, subst, List, [], length, take}
-use Rattle.std.specs.Prelude.{false}
+use Rattle.std.proofs.Common.{◌≡◌, ℕ, zero, suc, ℤ, pos, ◌*◌, ◌<◌, ◌≤◌, refl, arith, sym, ap, ◌∙◌, subst, List, [], length, get_or, take}
+use Rattle.std.specs.Prelude.{false, Result, Ok, Err, IfOk, IfErr}
 use Rattle.std.proofs.lemmas.List.{take_all}
 use Rattle.lt_model.specs.Flat.{rows}
-use Rattle.lt_model.specs.Limits.{span, span_limit}
+use Rattle.lt_model.specs.Limits.{span, span_limit, class_span}
 use Rattle.lt_model.specs.Triangulations.{IsDelaunay}
 use Rattle.lt_model.specs.Walls.{IsFacet, IsAcross}
 use Rattle.lt_model.specs.Matrices.{AreEquivalent}
@@ -12,10 +12,13 @@ use Rattle.lt_model.specs.RightAtlases.{IsOpenAt}
 use Rattle.lt_model.specs.Logs.{IsKnown, IsWide, IsHeavy, IsLegal, IsStuck, IsUnlikeAll}
 use Rattle.lt_triang.specs.Kept.{dimension_of, IsOfSomeForm}
 use Rattle.lt_flip.specs.Flipped.{IsWideFlip}
+use Rattle.lt_flip.specs.declared.flips.FlipError.{FlipError}
+use Rattle.lt_flip.specs.declared.flips.FlipError.TheVariants.{Wide, Memory}
 use Rattle.lt_match.specs.Matches.{IsFirstMatch}
 use Rattle.lt_geometry.proofs.FlipOf.{flips_are_across}
 use Rattle.lt_core.specs.Marks.{matrix_rows, side}
 use Rattle.lt_crew.specs.Settled.{LiesAcross, IsNarrow, IsFirstKnown}
+use Rattle.lt_crew.specs.Wide.{IsWideAcross}
 
 -- the triangulation t and the normal n that stand at position p, in dimension d
 pub record StandsAt (a : Atlas) (p : ℕ) (d : ℕ) (t : Classes) (n : List ℤ) : Type 0 where
@@ -45,15 +48,34 @@ wide_here a p t n s c h low f facet w =
     let d : ℕ = dimension_of t in
     let two : 2 ≤ d = omega (arith, low, h.dimension) in
     let e : d ≡ a.dimension = h.dimension in
-    (w.flipped, _, lies_across a p d t w.flipped n h (flips_are_across d f.0 n t w.flipped two f.1 facet w.flip),
+    (w.flipped, class_span s, lies_across a p d t w.flipped n h (flips_are_across d f.0 n t w.flipped two f.1 facet w.flip),
     record {
       place = w.place;
       within = w.first.place;
       member = sym w.class_is;
-      above = rw w.class_is (subst (λ (z : ℕ). span_limit z < _) e w.first.wide);
-      first = λ i l. subst (λ (z : ℕ). _ ≤ span_limit z) e (w.first.before i l);
+      above = rw w.class_is (subst (λ (z : ℕ). span_limit z < class_span (get_or w.flipped w.place [])) e w.first.wide);
+      first = λ i l. subst (λ (z : ℕ). class_span (get_or w.flipped i []) ≤ span_limit z) e (w.first.before i l);
       number = refl;
     }, w.span_is)
+
+-- ---- answers of the flip
+
+module _ (a : Atlas) (p : ℕ) (t : Classes) (n : List ℤ) (h : StandsAt a p (dimension_of t) t n) where
+  pub across_of : (r : Result Classes FlipError) → IfOk r (λ x. IsAcross (dimension_of t) t n x) → IfOk r (λ x. LiesAcross a p x)
+  across_of (Ok x) f = lies_across a p (dimension_of t) t x n h f
+  across_of (Err e) f = tt
+
+  pub narrow_of : (r : Result Classes FlipError) → IfOk r (λ x. dimension_of x ≡ dimension_of t) → IfOk r (λ x. IsOfSomeForm x) → IfOk r (λ x. span x ≤ span_limit (dimension_of t)) → IfOk r (λ x. IsNarrow a.dimension x)
+  narrow_of (Ok x) e f l = narrow_here a p (dimension_of t) t x n h e f l
+  narrow_of (Err e) f g l = tt
+
+  wide_error : (r : Result Classes FlipError) (e : FlipError) → r ≡ Err e → 2 ≤ a.dimension → IsOfSomeForm t → IsFacet (dimension_of t) t n → ((s : List (List ℤ)) (c : ℤ) → r ≡ Err (Wide s c) → IsWideFlip (dimension_of t) t n s c) → IsWideAcross a p e
+  wide_error r (Wide s c) e low f facet w = wide_here a p t n s c h low f facet (w s c e)
+  wide_error r Memory e low f facet w = tt
+
+  pub wide_of : (r : Result Classes FlipError) → 2 ≤ a.dimension → IsOfSomeForm t → IsFacet (dimension_of t) t n → ((s : List (List ℤ)) (c : ℤ) → r ≡ Err (Wide s c) → IsWideFlip (dimension_of t) t n s c) → IfErr r (λ e. IsWideAcross a p e)
+  wide_of (Ok x) low f facet w = tt
+  wide_of (Err e) low f facet w = wide_error (Err e) e refl low f facet w
 
 -- ---- matrices
 
@@ -84,8 +106,8 @@ first_known a t r k u low high n l e c m before = record { present = l; first = 
   there = subst (λ (z : List (List ℤ)). IsFirstMatch a.dimension t (entry_at a.entries k).triangulation z) (sym (square_rows a.dimension u low high long)) (subst (λ (z : Classes). IsFirstMatch a.dimension t z (rows a.dimension u)) e here)
 
 pub no_match : (a : Atlas) (t r : Classes) (k : ℕ) → IsNarrow a.dimension t → r ≡ (entry_at a.entries k).triangulation → (AreEquivalent (dimension_of t) t r → ⊥) → AreEquivalent a.dimension t (entry_at a.entries k).triangulation → ⊥
-no_match a t r k n e no h =
-    no (subst (λ (z : Classes). AreEquivalent (dimension_of t) t z) (sym e) (subst (λ (z : ℕ). AreEquivalent z t (entry_at a.entries k).triangulation) (sym n.dimension) h))
+no_match a t r k n e none h =
+    none (subst (λ (z : Classes). AreEquivalent (dimension_of t) t z) (sym e) (subst (λ (z : ℕ). AreEquivalent z t (entry_at a.entries k).triangulation) (sym n.dimension) h))
 
 -- ---- events
 

@@ -1,12 +1,13 @@
 -- What stands at a place of the queue of an atlas: an entry that is a Delaunay triangulation, and a facet of its cone.
-use Rattle.std.proofs.Common.{◌≡◌, ℕ, ℤ, ◌<◌, ◌≤◌, sym, subst, List, length}
+use Rattle.std.proofs.Common.{◌≡◌, ℕ, ℤ, ◌<◌, ◌≤◌, sym, ap, ◌∙◌, subst, List, [], length, get_or}
 use Rattle.lt_model.specs.Triangulations.{IsDelaunay}
 use Rattle.lt_model.specs.Walls.{IsFacet, IsAcross}
-use Rattle.lt_model.specs.Atlases.{Classes, Atlas, entry_at, place_at, facets, facet_at}
+use Rattle.lt_model.specs.Atlases.{Classes, Entry, Atlas, entry_at, place_at, facets, facet_at}
 use Rattle.lt_model.specs.RightAtlases.{AreRight}
 use Rattle.lt_model.specs.Logs.{IsKept}
 use Rattle.lt_triang.specs.Kept.{dimension_of, IsOfSomeForm}
 use Rattle.lt_triang.proofs.SomeForm.{delaunay_dimension}
+use Rattle.lt_crew.proofs.Beyond.{StandsAt}
 use Rattle.lt_core.proofs.Crossings.{HasForm, AreCrossings, across_laws}
 use Rattle.lt_core.proofs.Reaching.{facet_there, entry_form}
 
@@ -37,3 +38,18 @@ module _ (a : Atlas) (low : 2 ≤ a.dimension) (kept : IsKept (IsAcross a.dimens
     pub is_facet : IsFacet a.dimension (entry_at a.entries (place_at a.queue p).0).triangulation (facet_at a.entries (place_at a.queue p))
     is_facet =
         facet_there (IsAcross a.dimension) a.dimension laws a.entries a.marks parts (place_at a.queue p).0 (place_at a.queue p).1 entry_within facet_within
+
+    -- the entry and the normal that are read there, as a call reads them
+    pub stands_at : (k f : ℕ) (e : Entry) (n : List ℤ) → k ≡ (place_at a.queue p).0 → f ≡ (place_at a.queue p).1 → e ≡ entry_at a.entries k → n ≡ get_or (facets e) f [] → StandsAt a p (dimension_of e.triangulation) e.triangulation n
+    stands_at k f e n hk hf he hn =
+        let same : e ≡ entry_at a.entries (place_at a.queue p).0 = he ∙ ap (λ z. entry_at a.entries z) hk in
+        let t : e.triangulation ≡ (entry_at a.entries (place_at a.queue p).0).triangulation = ap (λ (z : Entry). z.triangulation) same in
+        record {
+          dimension = ap dimension_of t ∙ entry_dimension (place_at a.queue p).0 entry_within;
+          triangulation = t;
+          normal = hn ∙ ap (λ (z : Entry). get_or (facets z) f []) same ∙ ap (λ z. get_or (facets (entry_at a.entries (place_at a.queue p).0)) z []) hf;
+        }
+
+    -- the triangulation that is read there has a form
+    pub form_here : (t : Classes) → t ≡ (entry_at a.entries (place_at a.queue p).0).triangulation → IsOfSomeForm t
+    form_here t e = subst (λ (z : Classes). IsOfSomeForm z) (sym e) (entry_delaunay (place_at a.queue p).0 entry_within)

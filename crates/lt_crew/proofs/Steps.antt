@@ -1,5 +1,5 @@
 -- A run goes through the queue in order: each step settles the position behind the events of the log.
-use Rattle.std.proofs.Common.{◌≡◌, ℕ, zero, suc, ◌+◌, ◌<◌, ◌≤◌, refl, arith, sym, ap, ◌∙◌, subst, inl, inr, List, [], ◌∷◌, ◌++◌, length, get_or, ◌↔◌}
+use Rattle.std.proofs.Common.{◌≡◌, ℕ, zero, suc, ◌+◌, ◌<◌, ◌≤◌, refl, arith, sym, ap, ◌∙◌, subst, inl, inr, List, [], ◌∷◌, ◌++◌, length, get_or, ◌↔◌, ◌⊎◌, true, false}
 use Rattle.std.proofs.lemmas.List.{get_or_at, get_or_append_left}
 use Rattle.std.proofs.lemmas.Bool.{cases_lt}
 use Rattle.lt_model.specs.Walls.{IsAcross}
@@ -42,12 +42,12 @@ next_grow a p e h = record {
 pub settled_next : (a b : Atlas) (p : ℕ) → IsOpenAt a p → IsSettled a p b → IsNext a p b
 settled_next a b p h s =
     elim s.end [
-      | inl w ↦ subst (λ (z : Atlas). IsNext a p z) (sym w.2.2.2) (next_push a p (wide w.0 w.1) h)
+      | inl w ↦ subst (λ (z : Atlas). IsNext a p z) (sym w.3) (next_push a p (wide w.0 w.1) h)
       | inr n ↦ elim n.1 [
-        | inl k ↦ subst (λ (z : Atlas). IsNext a p z) (sym k.2.2.2) (next_push a p (cross k.0 k.1) h)
+        | inl k ↦ subst (λ (z : Atlas). IsNext a p z) (sym k.3) (next_push a p (cross k.0 k.1) h)
         | inr o ↦ elim o [
-          | inl v ↦ subst (λ (z : Atlas). IsNext a p z) (sym v.2.2) (next_push a p (heavy v.0) h)
-          | inr g ↦ subst (λ (z : Atlas). IsNext a p z) (sym g.2.2.2) (next_grow a p (candidate a p s.across g.0) h)
+          | inl v ↦ subst (λ (z : Atlas). IsNext a p z) (sym v.2) (next_push a p (heavy v.0) h)
+          | inr g ↦ subst (λ (z : Atlas). IsNext a p z) (sym g.3) (next_grow a p (candidate a p s.across g.0) h)
         ]
       ]
     ]
@@ -66,7 +66,7 @@ run_goes_on s a b p r n h = (record { begins = h.begins ∙ r.begins; order = or
   at : (i : ℕ) → i < suc p → (event_at (a.log ++ h.event ∷ []) i).position ≡ i
   at i l =
       elim (cases_lt i p) [
-        | inl k ↦ (let w : i < length a.log = omega (arith, k, n) in ap (λ (e : Event). e.position) (get_or_append_left a.log (h.event ∷ []) i no_event w) ∙ r.order i w)
+        | inl k ↦ (let w : i < length a.log = omega (arith, k, n) in ap (λ (e : Event). e.position) (get_or_append_left a.log (h.event ∷ []) no_event i w) ∙ r.order i w)
         | inr k ↦ (let same : i ≡ length a.log = omega (arith, l, k, n) in last i same ∙ sym n ∙ sym same)
       ]
     where
@@ -75,6 +75,22 @@ run_goes_on s a b p r n h = (record { begins = h.begins ∙ r.begins; order = or
 
   order : (i : ℕ) → i < length b.log → (event_at b.log i).position ≡ i
   order i l = ap (λ (z : List Event). (event_at z i).position) h.log ∙ at i (omega (arith, l, length-log))
+
+-- the run of s has settled the positions below p
+pub record IsRunTo (s a : Atlas) (steps p : ℕ) : Type 0 where
+  pub run : IsRunOf s a
+  pub done : length a.log ≡ p
+  pub within : p ≤ steps
+  pub few : length a.entries ≤ 100001 + p
+
+pub runs_from : (a : Atlas) (steps : ℕ) → a.log ≡ [] → length a.entries ≤ 100001 → IsRunTo a a steps 0
+runs_from a steps e n = record { run = run_begins a e; done = ap length e; within = omega arith; few = omega (arith, n) }
+
+pub runs_on : (s a b : Atlas) (steps p : ℕ) → IsRunTo s a steps p → p < steps → IsNext a p b → IsRunTo s b steps (p + 1)
+runs_on s a b steps p r l h =
+    let next = run_goes_on s a b p r.run r.done h in
+    let long : length b.log ≡ suc p = next.1 in
+    record { run = next.0; done = omega (arith, long); within = omega (arith, l); few = let n = h.entries in let m = r.few in omega (arith, n, m) }
 
 module _ (s a : Atlas) (r : IsRunOf s a) (kept : IsKept (IsAcross a.dimension) a) where
   -- what stands behind the events of the log is open

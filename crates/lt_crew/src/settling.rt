@@ -39,8 +39,9 @@ fn known(alloc: Global, atlas: &Atlas, t: &Triangulation) -> Result<Option<(u32,
 {
     atlas.keeps();
     for k in 0..atlas.entries() {
-        if let Some(u) = match_types(alloc, t, &atlas.entry(k).triangulation)? {
-            return Ok(Some((k, u)));
+        match match_types(alloc, t, &atlas.entry(k).triangulation)? {
+            Some(u) => return Ok(Some((k, u))),
+            None => {}
         }
     }
     Ok(None)
