@@ -13,7 +13,6 @@ use Rattle.lt_model.specs.Principal.{IsPrincipal}
 use Rattle.lt_model.proofs.Sets.{Contains-head, Contains-tail}
 use Rattle.lt_geometry.specs.Principal.{pair_normal, own_normal, IsPrincipalNormal}
 use Rattle.lt_geometry.proofs.PrincipalNormals.{principal_regulators}
-use Rattle.lt_words.specs.Grammar.{IsDimension}
 
 -- ---- small factors have a small product
 
@@ -70,52 +69,52 @@ pairs d = every (λ j. every (λ i. leb (size (pair_normal d i j)) 10) d) d
 abbrev owns : ℕ → Bool
 owns d = every (λ i. leb (size (own_normal d i)) 10) d
 
-all_pairs : (d : ℕ) → IsDimension d → pairs d ≡ true
+all_pairs : (d : ℕ) → 2 ≤ d → d ≤ 5 → pairs d ≡ true
 unfolding every
-all_pairs zero r = absurd (omega (arith, r.0))
-all_pairs (suc zero) r = absurd (omega (arith, r.0))
-all_pairs (suc (suc zero)) r = refl
-all_pairs (suc (suc (suc zero))) r = refl
-all_pairs (suc (suc (suc (suc zero)))) r = refl
-all_pairs (suc (suc (suc (suc (suc zero))))) r = refl
-all_pairs (suc (suc (suc (suc (suc (suc d)))))) r = absurd (omega (arith, r.1))
+all_pairs zero low high = absurd (omega (arith, low))
+all_pairs (suc zero) low high = absurd (omega (arith, low))
+all_pairs (suc (suc zero)) low high = refl
+all_pairs (suc (suc (suc zero))) low high = refl
+all_pairs (suc (suc (suc (suc zero)))) low high = refl
+all_pairs (suc (suc (suc (suc (suc zero))))) low high = refl
+all_pairs (suc (suc (suc (suc (suc (suc d)))))) low high = absurd (omega (arith, high))
 
-all_owns : (d : ℕ) → IsDimension d → owns d ≡ true
+all_owns : (d : ℕ) → 2 ≤ d → d ≤ 5 → owns d ≡ true
 unfolding every
-all_owns zero r = absurd (omega (arith, r.0))
-all_owns (suc zero) r = absurd (omega (arith, r.0))
-all_owns (suc (suc zero)) r = refl
-all_owns (suc (suc (suc zero))) r = refl
-all_owns (suc (suc (suc (suc zero)))) r = refl
-all_owns (suc (suc (suc (suc (suc zero))))) r = refl
-all_owns (suc (suc (suc (suc (suc (suc d)))))) r = absurd (omega (arith, r.1))
+all_owns zero low high = absurd (omega (arith, low))
+all_owns (suc zero) low high = absurd (omega (arith, low))
+all_owns (suc (suc zero)) low high = refl
+all_owns (suc (suc (suc zero))) low high = refl
+all_owns (suc (suc (suc (suc zero)))) low high = refl
+all_owns (suc (suc (suc (suc (suc zero))))) low high = refl
+all_owns (suc (suc (suc (suc (suc (suc d)))))) low high = absurd (omega (arith, high))
 
-small : (d : ℕ) → IsDimension d → (n : List ℤ) → IsPrincipalNormal d n → size n ≤ 10
-small d r n (inl (i, j, lt, below, is)) =
-    let e = holds_at (λ k. leb (size (pair_normal d k j)) 10) d i (holds_at (λ l. every (λ k. leb (size (pair_normal d k l)) 10) d) d j (all_pairs d r) below) (omega (arith, lt, below)) in
+small : (d : ℕ) → 2 ≤ d → d ≤ 5 → (n : List ℤ) → IsPrincipalNormal d n → size n ≤ 10
+small d low high n (inl (i, j, lt, below, is)) =
+    let e = holds_at (λ k. leb (size (pair_normal d k j)) 10) d i (holds_at (λ l. every (λ k. leb (size (pair_normal d k l)) 10) d) d j (all_pairs d low high) below) (omega (arith, lt, below)) in
     subst (λ (m : List ℤ). size m ≤ 10) (sym is) (leb-true _ _ e)
-small d r n (inr (i, below, is)) =
-    let e = holds_at (λ k. leb (size (own_normal d k)) 10) d i (all_owns d r) below in
+small d low high n (inr (i, below, is)) =
+    let e = holds_at (λ k. leb (size (own_normal d k)) 10) d i (all_owns d low high) below in
     subst (λ (m : List ℤ). size m ≤ 10) (sym is) (leb-true _ _ e)
 
 -- ---- the weight
 
-below_limit : (d : ℕ) → IsDimension d → powers (suc (numbers_of_form d)) < weight_limit
-below_limit zero r = absurd (omega (arith, r.0))
-below_limit (suc zero) r = absurd (omega (arith, r.0))
-below_limit (suc (suc zero)) r = omega arith
-below_limit (suc (suc (suc zero))) r = omega arith
-below_limit (suc (suc (suc (suc zero)))) r = omega arith
-below_limit (suc (suc (suc (suc (suc zero))))) r = omega arith
-below_limit (suc (suc (suc (suc (suc (suc d)))))) r = absurd (omega (arith, r.1))
+below_limit : (d : ℕ) → 2 ≤ d → d ≤ 5 → powers (suc (numbers_of_form d)) < weight_limit
+below_limit zero low high = absurd (omega (arith, low))
+below_limit (suc zero) low high = absurd (omega (arith, low))
+below_limit (suc (suc zero)) low high = omega arith
+below_limit (suc (suc (suc zero))) low high = omega arith
+below_limit (suc (suc (suc (suc zero)))) low high = omega arith
+below_limit (suc (suc (suc (suc (suc zero))))) low high = omega arith
+below_limit (suc (suc (suc (suc (suc (suc d)))))) low high = absurd (omega (arith, high))
 
-pub principal_is_light : (d : ℕ) (t : List (List (List ℤ))) (ns : List (List ℤ)) → IsDimension d → IsPrincipal d t → AreRegulators d t ns → weight d ns < weight_limit
-principal_is_light d t ns r p h =
+pub principal_is_light : (d : ℕ) (t : List (List (List ℤ))) (ns : List (List ℤ)) → 2 ≤ d → d ≤ 5 → IsPrincipal d t → AreRegulators d t ns → weight d ns < weight_limit
+principal_is_light d t ns low high p h =
     let k : ℕ = suc (numbers_of_form d) in
     let values : List ℕ = map size ns in
-    let each = map_all ns (λ n c. small d r n ((principal_regulators d t r.0 p n).0 ((h.members n).0 c))) in
+    let each = map_all ns (λ n c. small d low high n ((principal_regulators d t low p n).0 ((h.members n).0 c))) in
     let a : product (take k (descending values)) ≤ powers k = small_product k (descending values) (all_descending 10 values each) in
-    let b : powers k < weight_limit = below_limit d r in
+    let b : powers k < weight_limit = below_limit d low high in
     let c : weight d ns ≤ product (take k (descending values)) = min-le_right (2 ^ 120) _ in
     omega (arith, a, b, c)
   where
