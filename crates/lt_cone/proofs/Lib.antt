@@ -1,5 +1,3 @@
 pub mod AllRows
-pub mod Extreme
-pub mod WallSums
 pub mod RightCones
-pub mod RowLists
+pub mod NoFault

@@ -1,248 +1,40 @@
--- Rows of regulators with right verdicts: one is a wall, and the sum of the walls is not 0.
-use Rattle.std.proofs.Common.{◌≡◌, ◌≢◌, ◌⊎◌, inl, inr, refl, sym, ◌∙◌, ap, subst, arith, ℕ, zero, suc, ◌^◌, ◌<◌, ◌≤◌, ℤ, pos, negsuc, ◌+ℤ◌, ◌*ℤ◌, ◌≤ℤ◌, ◌<ℤ◌, List, [], ◌∷◌, length, map, get_or}
-use Rattle.std.specs.List.{All, Contains}
-use Rattle.std.proofs.lemmas.Int.{ints}
+-- The regulators of a Delaunay triangulation have what the cone of a list asks, in the dimension that the triangulation tells.
+use Rattle.std.proofs.Common.{◌≡◌, sym, subst, arith, ℕ, ◌<◌, ℤ, List, [], length, get_or}
 use Rattle.std.proofs.lemmas.List.Elements.{Contains-get_or}
-use native.Mathlib.Decide.{ℕ_discrete, dec_le}
-use Rattle.lt_model.specs.Padded.{lookup}
-use Rattle.lt_model.specs.Vectors.{plus, scale, dot, combine, IsPrimitive}
 use Rattle.lt_model.specs.Forms.{numbers_of_form}
-use Rattle.lt_model.specs.Order.{number_list_cmp}
-use Rattle.lt_model.specs.Triangulations.{IsDelaunay}
-use Rattle.lt_model.specs.Walls.{AreRegulators, IsRegulator}
-use Rattle.lt_model.specs.Cones.{Row, Verdict, wall, combination, normals, coefficients, places, sum_of_walls, wall_or_none, IsRightVerdict}
-use Rattle.std.proofs.lemmas.List.{get_or_default, length-map}
 use Rattle.lt_model.specs.Simplices.{IsClass}
-use Rattle.lt_model.proofs.Sets.{number_list_cmp_total, same_members}
+use Rattle.lt_model.specs.Triangulations.{IsDelaunay}
+use Rattle.lt_model.specs.Walls.{AreRegulators}
+use Rattle.lt_model.specs.Cones.{Row, normals, IsRightVerdict}
 use Rattle.lt_triang.specs.Kept.{IsTriangulation}
 use Rattle.lt_geometry.proofs.Fewness.{few_regulators}
-use Rattle.lt_cone.specs.Rows.{IsWallOf}
-use Rattle.lt_cone.proofs.WallSums.{long_sum}
-use Rattle.lt_model.proofs.Integers.{mul_zero_z}
-use Rattle.lt_model.proofs.Vectors.{dot-plus}
-use Rattle.lt_model.proofs.Walk.{plus-nil}
-use Rattle.lt_tableau.proofs.Sums.{lookup_none}
-use Rattle.lt_geometry.proofs.Choices.{AreApart, apart_from_sorted}
-use Rattle.lt_geometry.proofs.Regulators.{regulators_positive, has_regulator}
-use Rattle.lt_cone.proofs.Extreme.{AreDistinct, extreme}
+use Rattle.lt_lp.proofs.Extreme.{AreDistinct}
+use Rattle.lt_lp.proofs.RowSums.{IsConeReady, cone_ready}
+use Rattle.lt_regulator.proofs.Distinct.{some_regulator, regulator_lengths, positive_at, regulator_rays}
 
-apart_at : (xs : List (List ℤ)) → AreApart xs → (i j : ℕ) → i < j → j < length xs → get_or xs i [] ≡ get_or xs j [] → ⊥
-apart_at [] a i j h l e = absurd (omega arith)
-apart_at (x ∷ xs) a i zero h l e = absurd (omega arith)
-apart_at (x ∷ xs) a zero (suc j) h l e = a.0 (subst (Contains xs) (sym e) (Contains-get_or xs j [] (omega arith)))
-apart_at (x ∷ xs) a (suc i) (suc j) h l e = apart_at xs a.1 i j (omega arith) (omega arith) e
+-- a Delaunay triangulation in the dimension that it tells, with its regulators
+pub record IsTold (e : ℕ) (q : List ℤ) (t : List (List (List ℤ))) (ns : List (List ℤ)) : Type 0 where
+  pub delaunay : IsDelaunay e q t
+  pub regulators : AreRegulators e t ns
 
-pub regulator_at : (d : ℕ) (t : List (List (List ℤ))) (ns : List (List ℤ)) (i : ℕ) → AreRegulators d t ns → i < length ns → IsRegulator d t (get_or ns i [])
-regulator_at d t ns i r l = (r.members (get_or ns i [])).0 (Contains-get_or ns i [] l)
-
-pub distinct : (d : ℕ) (q : List ℤ) (t : List (List (List ℤ))) (ns : List (List ℤ)) → IsDelaunay d q t → AreRegulators d t ns → AreDistinct (numbers_of_form d) q ns
-distinct d q t ns k r = record {
-  lengths = λ i l. (regulators_positive d q t (get_or ns i []) k (regulator_at d t ns i r l)).1;
-  positive = λ i l. (regulators_positive d q t (get_or ns i []) k (regulator_at d t ns i r l)).2;
-  primitive = λ i l. (regulators_positive d q t (get_or ns i []) k (regulator_at d t ns i r l)).0;
-  different = λ i j li lj ne e. pick i j li lj ne e (dec_le i j);
-}
-  where
-    ap_ns : AreApart ns
-    ap_ns = apart_from_sorted number_list_cmp number_list_cmp_total ns r.ascending
-
-    pick : (i j : ℕ) → i < length ns → j < length ns → i ≢ j → get_or ns i [] ≡ get_or ns j [] → Dec (i ≤ j) → ⊥
-    pick i j li lj ne e (yes h) = apart_at ns ap_ns i j (omega (arith, ne)) lj e
-    pick i j li lj ne e (no h) = apart_at ns ap_ns j i (omega arith) li (sym e)
-
-pub some_regulator : (d : ℕ) (q : List ℤ) (t : List (List (List ℤ))) (ns : List (List ℤ)) → IsDelaunay d q t → AreRegulators d t ns → 0 < length ns
-some_regulator d q t ns k r =
-    let h = has_regulator d q t k in
-    let c = (r.members h.0).1 h.1 in
-    omega (arith, c.1)
-
--- ---- products with the sum of the walls
-sum_not_negative : (n : List ℤ) (rows : List Row) → ((j : ℕ) (r : Row) (w : List ℤ) → j < length rows → (get_or rows j r).verdict ≡ wall w → pos 0 ≤ℤ dot n w) → pos 0 ≤ℤ dot n (sum_of_walls rows)
-sum_not_negative n [] h = none n
-  where
-    none : (n : List ℤ) → pos 0 ≤ℤ dot n []
-    none [] = omega (arith, ints)
-    none (x ∷ n) = omega (arith, ints)
-sum_not_negative n (r ∷ rows) h = with_row r.verdict refl (sum_not_negative n rows (λ j s w l e. h (suc j) s w (omega arith) e))
-  where
-    both : (x y : ℤ) → pos 0 ≤ℤ x → pos 0 ≤ℤ y → pos 0 ≤ℤ (x +ℤ y)
-    both x y a b = omega (arith, ints)
-
-    with_row : (v : Verdict) → r.verdict ≡ v → pos 0 ≤ℤ dot n (sum_of_walls rows) → pos 0 ≤ℤ dot n (plus (wall_or_none r.verdict) (sum_of_walls rows))
-    with_row (combination f ts) e s = rw e s
-    with_row (wall w) e s = rw (e, dot-plus n w (sum_of_walls rows)) (both (dot n w) (dot n (sum_of_walls rows)) (h 0 r w (omega arith) e) s)
-
-sum_positive : (n : List ℤ) (rows : List Row) (k : ℕ) (r0 : Row) (w0 : List ℤ) → k < length rows → (get_or rows k r0).verdict ≡ wall w0 → pos 0 <ℤ dot n w0 → ((j : ℕ) (r : Row) (w : List ℤ) → j < length rows → (get_or rows j r).verdict ≡ wall w → pos 0 ≤ℤ dot n w) → pos 0 <ℤ dot n (sum_of_walls rows)
-sum_positive n [] k r0 w0 l v p h = absurd (omega arith)
-sum_positive n (r ∷ rows) zero r0 w0 l v p h =
-    rw (v, dot-plus n w0 (sum_of_walls rows)) (more (dot n w0) (dot n (sum_of_walls rows)) p (sum_not_negative n rows (λ j s w m e. h (suc j) s w (omega arith) e)))
-  where
-    more : (x y : ℤ) → pos 0 <ℤ x → pos 0 ≤ℤ y → pos 0 <ℤ (x +ℤ y)
-    more x y a b = omega (arith, ints)
-sum_positive n (r ∷ rows) (suc k) r0 w0 l v p h = with_row r.verdict refl (sum_positive n rows k r0 w0 (omega arith) v p (λ j s w m e. h (suc j) s w (omega arith) e))
-  where
-    more : (x y : ℤ) → pos 0 ≤ℤ x → pos 0 <ℤ y → pos 0 <ℤ (x +ℤ y)
-    more x y a b = omega (arith, ints)
-
-    with_row : (u : Verdict) → r.verdict ≡ u → pos 0 <ℤ dot n (sum_of_walls rows) → pos 0 <ℤ dot n (plus (wall_or_none r.verdict) (sum_of_walls rows))
-    with_row (combination f ts) e s = rw e s
-    with_row (wall w) e s = rw (e, dot-plus n w (sum_of_walls rows)) (more (dot n w) (dot n (sum_of_walls rows)) (h 0 r w (omega arith) e) s)
-
--- ---- zeros
-some_or_none : (xs : List ℤ) → ((q : ℕ) × (lookup xs q ≢ pos 0)) ⊎ ((q : ℕ) → lookup xs q ≡ pos 0)
-some_or_none [] = inr lookup_none
-some_or_none (pos (suc n) ∷ xs) = inl (0, other n)
-  where
-    other : (n : ℕ) → pos (suc n) ≡ pos 0 → ⊥
-    other n e = omega (arith, ints)
-some_or_none (negsuc n ∷ xs) = inl (0, other n)
-  where
-    other : (n : ℕ) → negsuc n ≡ pos 0 → ⊥
-    other n e = omega (arith, ints)
-some_or_none (pos zero ∷ xs) = pick (some_or_none xs)
-  where
-    pick : ((q : ℕ) × (lookup xs q ≢ pos 0)) ⊎ ((q : ℕ) → lookup xs q ≡ pos 0) → ((q : ℕ) × (lookup (pos 0 ∷ xs) q ≢ pos 0)) ⊎ ((q : ℕ) → lookup (pos 0 ∷ xs) q ≡ pos 0)
-    pick (inl s) = inl (suc s.0, s.1)
-    pick (inr z) = inr (λ q. each q)
-      where
-        each : (q : ℕ) → lookup (pos 0 ∷ xs) q ≡ pos 0
-        each zero = refl
-        each (suc q) = z q
-
-dot_none : (n xs : List ℤ) → ((q : ℕ) → lookup xs q ≡ pos 0) → dot n xs ≡ pos 0
-dot_none [] xs z = refl
-dot_none (a ∷ n) [] z = refl
-dot_none (a ∷ n) (x ∷ xs) z =
-    let h : x ≡ pos 0 = z 0 in
-    rw (h, mul_zero_z a, dot_none n xs (λ q. z (suc q))) refl
-
-zeros_doubled : (xs : List ℤ) → ((q : ℕ) → lookup xs q ≡ pos 0) → xs ≡ scale (pos 2) xs
-zeros_doubled [] z = refl
-zeros_doubled (x ∷ xs) z =
-    let h : x ≡ pos 0 = z 0 in
-    let e : x ≡ pos 2 *ℤ x = rw (h, mul_zero_z (pos 2)) refl in
-    let r = zeros_doubled xs (λ q. z (suc q)) in
-    ap (λ (y : ℤ). y ∷ xs) e ∙ ap (λ (ys : List ℤ). (pos 2 *ℤ x) ∷ ys) r
-
-not_primitive : (xs : List ℤ) → ((q : ℕ) → lookup xs q ≡ pos 0) → IsPrimitive xs → ⊥
-not_primitive xs z p = let e = p 2 xs (zeros_doubled xs z) in absurd (omega arith)
-
--- ---- the sum of the walls is not 0
-only : (rows : List Row) (r : Row) (w : List ℤ) → length rows ≡ 1 → (get_or rows 0 r).verdict ≡ wall w → sum_of_walls rows ≡ w
-only [] r w l v = absurd (omega arith)
-only (x ∷ []) r w l v = rw (v) (plus-nil w)
-only (x ∷ y ∷ rows) r w l v = absurd (omega arith)
-
-has_wall_row : (d : ℕ) (q : List ℤ) (ns : List (List ℤ)) (rows : List Row) (r : Row) → AreDistinct (numbers_of_form d) q ns → 1 ≤ numbers_of_form d → 0 < length ns → length rows ≡ length ns → ((k : ℕ) (r : Row) → k < length rows → IsRightVerdict d ns k (get_or rows k r).verdict) →
-    (k : ℕ) × (k < length rows) × (w : List ℤ) × ((get_or rows k r).verdict ≡ wall w)
-has_wall_row d q ns rows r dis one some same right =
-    let x = extreme (numbers_of_form d) q ns dis one some in
-    let l : x.0 < length rows = rw same x.1 in
-    let f = found x.0 x.2 (get_or rows x.0 r).verdict (right x.0 r l) in
-    (x.0, l, f.0, f.1)
-  where
-    found : (k : ℕ) → ((factor : ℤ) (ts : List (ℕ × ℤ)) → All (λ i. i < length ns) (places ts) → All (λ i. i ≢ k) (places ts) → All (λ x. pos 0 <ℤ x) (coefficients ts) → combine (coefficients ts) (map (λ i. get_or ns i []) (places ts)) ≡ scale factor (get_or ns k []) → ⊥) → (v : Verdict) → IsRightVerdict d ns k v → (w : List ℤ) × (v ≡ wall w)
-    found k never (wall w) c = (w, refl)
-    found k never (combination f ts) c = absurd (never f ts c.within c.other c.positive c.sum)
-
-pub some_sum : (d : ℕ) (q : List ℤ) (ns : List (List ℤ)) (rows : List Row) (r : Row) → AreDistinct (numbers_of_form d) q ns → 1 ≤ numbers_of_form d → 0 < length ns → length rows ≡ length ns → ((k : ℕ) (r : Row) → k < length rows → IsRightVerdict d ns k (get_or rows k r).verdict) →
-    (p : ℕ) × (lookup (sum_of_walls rows) p ≢ pos 0)
-some_sum d q ns rows r dis one some same right = pick (some_or_none (sum_of_walls rows))
-  where
-    right_wall : (j : ℕ) (s : Row) (w : List ℤ) → j < length rows → (get_or rows j s).verdict ≡ wall w → IsRightVerdict d ns j (wall w)
-    right_wall j s w l e = subst (IsRightVerdict d ns j) e (right j s l)
-
-    at_least : (i : ℕ) → i < length ns → (j : ℕ) (s : Row) (w : List ℤ) → j < length rows → (get_or rows j s).verdict ≡ wall w → pos 0 ≤ℤ dot (get_or ns i []) w
-    at_least i li j s w l e = by (ℕ_discrete i j)
-      where
-        weak : (x : ℤ) → pos 0 <ℤ x → pos 0 ≤ℤ x
-        weak x h = omega (arith, ints)
-
-        by : Dec (i ≡ j) → pos 0 ≤ℤ dot (get_or ns i []) w
-        by (yes z) = let h = (right_wall j s w l e).zero_there in rw (z, h) (omega (arith, ints))
-        by (no z) = weak (dot (get_or ns i []) w) ((right_wall j s w l e).others i li z)
-
-    clash : (i k : ℕ) (w : List ℤ) → i < length ns → k < length rows → i ≢ k → (get_or rows k r).verdict ≡ wall w → ((p : ℕ) → lookup (sum_of_walls rows) p ≡ pos 0) → ⊥
-    clash i k w li lk ne e z =
-        let a = sum_positive (get_or ns i []) rows k r w lk e ((right_wall k r w lk e).others i li ne) (at_least i li) in
-        let b = dot_none (get_or ns i []) (sum_of_walls rows) z in
-        not_both (dot (get_or ns i []) (sum_of_walls rows)) a b
-      where
-        not_both : (x : ℤ) → pos 0 <ℤ x → x ≡ pos 0 → ⊥
-        not_both x a b = omega (arith, ints)
-
-    none : ((p : ℕ) → lookup (sum_of_walls rows) p ≡ pos 0) → (x : (k : ℕ) × (k < length rows) × (w : List ℤ) × ((get_or rows k r).verdict ≡ wall w)) → ⊥
-    none z x = by (dec_le (length rows) 1) (ℕ_discrete x.0 0)
-      where
-        by : Dec (length rows ≤ 1) → Dec (x.0 ≡ 0) → ⊥
-        by (yes b) c =
-            let k0 : x.0 ≡ 0 = omega (arith, x.1) in
-            let v : (get_or rows 0 r).verdict ≡ wall x.2 = subst (λ (m : ℕ). (get_or rows m r).verdict ≡ wall x.2) k0 x.3 in
-            let o = only rows r x.2 (omega (arith, x.1)) v in
-            not_primitive x.2 (subst (λ (ys : List ℤ). (p : ℕ) → lookup ys p ≡ pos 0) o z) (right_wall x.0 r x.2 x.1 x.3).primitive
-        by (no b) (yes c) = clash 1 x.0 x.2 (omega (arith, same)) x.1 (λ f. absurd (omega arith)) x.3 z
-        by (no b) (no c) = clash 0 x.0 x.2 (omega (arith, same)) x.1 (λ f. absurd (c (sym f))) x.3 z
-
-    pick : ((p : ℕ) × (lookup (sum_of_walls rows) p ≢ pos 0)) ⊎ ((p : ℕ) → lookup (sum_of_walls rows) p ≡ pos 0) → (p : ℕ) × (lookup (sum_of_walls rows) p ≢ pos 0)
-    pick (inl s) = s
-    pick (inr z) = absurd (none z (has_wall_row d q ns rows r dis one some same right))
-
--- ---- what the rows of the regulators have
-pub record IsConeReady (d e : ℕ) (ns : List (List ℤ)) (rows : List Row) : Type 0 where
-  pub same : e ≡ d
-  pub few : length rows ≤ 2 ^ 29
-  pub walls : (k : ℕ) (r : Row) → k < length rows → IsWallOf e (get_or rows k r).verdict
-  pub long : length (sum_of_walls rows) ≡ numbers_of_form e
-  pub some : (p : ℕ) × (lookup (sum_of_walls rows) p ≢ pos 0)
-
-dimension_is : (d e : ℕ) (q : List ℤ) (t : List (List (List ℤ))) → IsDelaunay d q t → IsTriangulation e t → e ≡ d
+pub dimension_is : (d e : ℕ) (q : List ℤ) (t : List (List (List ℤ))) → IsDelaunay d q t → IsTriangulation e t → e ≡ d
 dimension_is d e q t k h =
     let s : IsClass e (get_or t 0 []) = h.classes (get_or t 0 []) (Contains-get_or t 0 [] h.occupied) in
     let m : IsClass d (get_or t 0 []) = ((k.members (get_or t 0 [])).0 (Contains-get_or t 0 [] k.occupied)).0 in
     omega (arith, s.simplex.count, m.simplex.count)
 
-pub same_lengths : (n : ℕ) (ns : List (List ℤ)) → ((i : ℕ) → i < length ns → length (get_or ns i []) ≡ n) → 0 < length ns → (k : ℕ) (d : List ℤ) → k < length ns → length (get_or ns k d) ≡ n
-same_lengths n ns h p k d l = ap (length {A = ℤ}) (get_or_default ns k d [] l) ∙ h k l
+pub told : (d e : ℕ) (q : List ℤ) (t : List (List (List ℤ))) (ns : List (List ℤ)) → IsDelaunay d q t → IsTriangulation e t → AreRegulators d t ns → IsTold e q t ns
+told d e q t ns k h r =
+    let same = sym (dimension_is d e q t k h) in
+    record { delaunay = subst (λ (m : ℕ). IsDelaunay m q t) same k; regulators = subst (λ (m : ℕ). AreRegulators m t ns) same r }
 
-wall_numbers : (d : ℕ) (ns : List (List ℤ)) (k : ℕ) (v : Verdict) → IsRightVerdict d ns k v → IsWallOf d v
-wall_numbers d ns k (wall w) r = (r.numbers, r.below)
-wall_numbers d ns k (combination f ts) r = tt
-
-no_row : Row
-no_row = record { normal = []; verdict = wall [] }
-
-some_numbers : (d : ℕ) → 2 ≤ d → 1 ≤ numbers_of_form d
-some_numbers zero h = absurd (omega arith)
-some_numbers (suc d) h = omega arith
-
-pub cone_ready : (d e : ℕ) (q : List ℤ) (t : List (List (List ℤ))) (ns : List (List ℤ)) (rows : List Row) → IsDelaunay d q t → IsTriangulation e t → AreRegulators d t ns → normals rows ≡ ns → ((k : ℕ) (r : Row) → k < length rows → IsRightVerdict d ns k (get_or rows k r).verdict) → IsConeReady d e ns rows
-cone_ready d e q t ns rows k h g names right = record {
-  same = same;
-  few = rw long (few_regulators d q t ns low high k g);
-  walls = λ i r l. rw same (wall_numbers d ns i (get_or rows i r).verdict (right i r l));
-  long = rw same (pick (long_sum (numbers_of_form d) rows (λ i r w l v. (subst (IsRightVerdict d ns i) v (right i r l)).numbers)));
-  some = some;
-}
-  where
-    same : e ≡ d
-    same = dimension_is d e q t k h
-
-    low : 2 ≤ d
-    low = subst (λ (m : ℕ). 2 ≤ m) same h.low
-
-    high : d ≤ 6
-    high = subst (λ (m : ℕ). m ≤ 6) same h.high
-
-    long : length rows ≡ length ns
-    long = sym (length-map rows (λ (r : Row). r.normal)) ∙ ap (length {A = List ℤ}) names
-
-    some : (p : ℕ) × (lookup (sum_of_walls rows) p ≢ pos 0)
-    some = some_sum d q ns rows no_row (distinct d q t ns k g) (some_numbers d low) (some_regulator d q t ns k g) long right
-
-    pick : (length (sum_of_walls rows) ≡ numbers_of_form d) ⊎ (sum_of_walls rows ≡ []) → length (sum_of_walls rows) ≡ numbers_of_form d
-    pick (inl s) = s
-    pick (inr z) = absurd (some.1 (ap (λ (ys : List ℤ). lookup ys some.0) z ∙ lookup_none some.0))
-
--- the regulators are one list
-pub one_list : (d : ℕ) (t : List (List (List ℤ))) (ns ms : List (List ℤ)) → AreRegulators d t ns → AreRegulators d t ms → ns ≡ ms
-one_list d t ns ms a b = same_members number_list_cmp number_list_cmp_total ns ms a.ascending b.ascending (λ n. ((λ c. (b.members n).1 ((a.members n).0 c)), (λ c. (a.members n).1 ((b.members n).0 c))))
+pub rows_ready : (d e : ℕ) (q : List ℤ) (t : List (List (List ℤ))) (ns : List (List ℤ)) (rows : List Row) → IsDelaunay d q t → IsTriangulation e t → AreRegulators d t ns → normals rows ≡ ns → ((k : ℕ) (r : Row) → k < length rows → IsRightVerdict d ns k (get_or rows k r).verdict) → IsConeReady e rows
+rows_ready d e q t ns rows k h r names right =
+    let it = told d e q t ns k h r in
+    let dis : AreDistinct (numbers_of_form e) q ns = record {
+      lengths = regulator_lengths e q t ns it.delaunay it.regulators;
+      positive = positive_at e q t ns it.delaunay it.regulators;
+      rays = regulator_rays e q t ns it.delaunay it.regulators;
+    } in
+    cone_ready e q ns rows h.low dis (some_regulator e q t ns it.delaunay it.regulators) (few_regulators e q t ns h.low h.high it.delaunay it.regulators) names
+    (subst (λ (m : ℕ). (i : ℕ) (s : Row) → i < length rows → IsRightVerdict m ns i (get_or rows i s).verdict) (sym (dimension_is d e q t k h)) right)

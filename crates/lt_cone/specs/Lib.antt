@@ -1,3 +1,3 @@
 pub mod Errors
 pub mod Faults
-pub mod Rows
+pub mod Laws

@@ -9,9 +9,8 @@ ghost use Rattle.lt_triang.specs.Kept.{dimension_of, IsOfSomeForm};
 ghost use Rattle.lt_cone.specs.Faults.{IsRowOf, IsFault};
 
 use crate::error::ConeFault;
-use crate::forms::form_of;
 use lt_lattice::Normal;
-use lt_lp::{Cone, Row, check};
+use lt_lp::{Cone, Row, check, form_of};
 use lt_regulator::regulators;
 use lt_tableau::weight;
 use lt_triang::Triangulation;

@@ -8,9 +8,7 @@ ghost use Rattle.lt_triang.specs.Kept.{dimension_of, IsOfSomeForm};
 ghost use Rattle.lt_cone.specs.Errors.{IsHeavyCone};
 
 use crate::error::ConeError;
-use crate::forms::form_of;
-use crate::rows::rows_of;
-use lt_lp::Cone;
+use lt_lp::{Cone, LpError, cone_of};
 use lt_regulator::regulators;
 use lt_triang::Triangulation;
 use std::alloc::Global;
@@ -27,7 +25,9 @@ pub fn cone(alloc: Global, t: &Triangulation) -> Result<Cone, ConeError>
         Ok(normals) => normals,
         Err(_) => return Err(ConeError::Memory),
     };
-    let rows = rows_of(alloc, normals.as_slice())?;
-    let form = form_of(rows.as_slice(), d);
-    Ok(Cone { rows, form })
+    match cone_of(alloc, d, normals.as_slice()) {
+        Ok(cone) => Ok(cone),
+        Err(LpError::Heavy { weight }) => Err(ConeError::Heavy { weight }),
+        Err(LpError::Memory) => Err(ConeError::Memory),
+    }
 }

@@ -4,9 +4,9 @@
 mod checks;
 mod cones;
 mod error;
-mod forms;
-mod rows;
+mod laws;
 
 pub use checks::check_cone;
 pub use cones::cone;
 pub use error::{ConeError, ConeFault};
+pub use laws::faults_are_wrong;

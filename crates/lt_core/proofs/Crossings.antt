@@ -20,7 +20,7 @@ pub record AreCrossings (Beyond : Classes → List ℤ → Classes → Type 0) (
   pub carried : (t t' p : Classes) (n : List ℤ) (u : List (List ℤ)) → HasForm d t → HasForm d p → Carries d u t p → IsFacet d t n → Beyond t n t' →
       (n2 : List ℤ) × (p2 : Classes) × IsFacet d p n2 × Beyond p n2 p2 × Carries d u t' p2
 
-across_form : (d : ℕ) (t t' : Classes) (n : List ℤ) → IsAcross d t n t' → HasForm d t'
+pub across_form : (d : ℕ) (t t' : Classes) (n : List ℤ) → IsAcross d t n t' → HasForm d t'
 across_form d t t' n h = (_, h.beyond h.bound (omega arith))
 
 pub across_laws : (d : ℕ) → 2 ≤ d → AreCrossings (IsAcross d) d

@@ -10,3 +10,6 @@ pub mod Crossings
 pub mod Reaching
 pub mod Writes
 pub mod Sounds
+pub mod Light
+pub mod FewFacets
+pub mod FirstEntry

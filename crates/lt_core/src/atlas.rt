@@ -53,7 +53,6 @@ impl Atlas {
     ) -> Result<Atlas, AllocError>
         requires right { AreRight (IsAcross dimension) dimension (map entry_of entries.items) (marks_of marks.items) }
         requires few { length entries.items ≤ 100001 }
-        requires few_facets { (k : ℕ) → k < length marks.items → length (get_or (marks_of marks.items) k []) < 2 ^ 32 }
         requires settled { stuck (marks_of marks.items) ≡ 0 }
         requires low { 2 ≤ dimension }
         requires high { dimension ≤ 6 }
@@ -231,7 +230,6 @@ impl Atlas {
         requires here { IsOpenAt self.old position }
         requires candidate { IsCandidate (IsAcross self.old.dimension) self.old position (length self.old.entries) (candidate self.old position triangulation cone) }
         requires few { length self.old.entries < 2 ^ 30 }
-        requires few_rows { length cone.rows < 2 ^ 32 }
         ensures ok { IfOk result (λ k. (k ≡ length self.old.entries) × (self.new ≡ grow self.old position (candidate self.old position triangulation cone))) }
         ensures err { IfErr result (λ b. (b.0 ≡ triangulation) × (b.1 ≡ cone)) }
         ensures unchanged { OnErr result (self.new ≡ self.old) }
@@ -335,7 +333,6 @@ impl Atlas {
         requires tested { tested ≤ length self.old.entries }
         requires candidate { standing_at self.old position ≡ open_mark → IsCandidate (IsAcross self.old.dimension) self.old position tested (candidate self.old position triangulation cone) }
         requires few { length self.old.entries < 2 ^ 30 }
-        requires few_rows { length cone.rows < 2 ^ 32 }
         ensures ok { IfOk result (λ k. (k ≡ length self.old.entries) × (self.new ≡ grow self.old position (candidate self.old position triangulation cone))) }
         ensures unchanged { OnErr result (self.new ≡ self.old) }
         ensures back { IfErr result (λ b. (b.triangulation ≡ triangulation) × (b.cone ≡ cone)) }

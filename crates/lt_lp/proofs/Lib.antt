@@ -19,3 +19,8 @@ pub mod FacetRows
 pub mod Checked
 pub mod Gordan
 pub mod OneAlternative
+pub mod WallSums
+pub mod Extreme
+pub mod RowLists
+pub mod RowSums
+pub mod ConesOf

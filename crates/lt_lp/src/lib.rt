@@ -3,16 +3,21 @@
 
 mod checks;
 mod combinations;
+mod cone_forms;
+mod cone_making;
 mod cones;
 mod deciding;
 mod laws;
 mod primitives;
+mod rows;
 mod rule;
 mod sums;
 mod verdicts;
 mod walls;
 
 pub use checks::check;
+pub use cone_forms::form_of;
+pub use cone_making::cone_of;
 pub use deciding::decide;
 pub use laws::alternatives;
 pub use verdicts::{Cone, LpError, Row, Verdict};

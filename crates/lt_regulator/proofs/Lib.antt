@@ -4,3 +4,4 @@ mod Near
 mod Positive
 mod Collected
 mod Listed
+pub mod Distinct

@@ -8,23 +8,19 @@ use Rattle.std.specs.Int.Signed.{le_z_yes}
 use Rattle.std.proofs.lemmas.Bool.{false≢true, not-false, not-true}
 use Rattle.std.specs.Cmp.Rules.{signed_items}
 use Rattle.lt_model.specs.Cones.{Row, Cone, normals, sum_of_walls, IsRightVerdict}
-use Rattle.lt_model.specs.Forms.{numbers_of_form}
 use Rattle.lt_model.specs.Limits.{weight, weight_limit}
-use Rattle.lt_model.specs.Triangulations.{IsDelaunay}
 use Rattle.lt_model.specs.Walls.{AreRegulators}
 use Rattle.lt_lp.specs.Reduced.{IsReduced}
-use Rattle.lt_tableau.specs.Errors.{AreOfDimension}
 use Rattle.lt_triang.specs.Kept.{dimension_of}
 use Rattle.lt_cone.specs.declared.error.ConeFault.{ConeFault}
 use Rattle.lt_cone.specs.declared.error.ConeFault.TheVariants.{Wrong}
 use Rattle.lt_cone.specs.Faults.{IsRowOf, IsFault}
 use Rattle.lt_cone.proofs.AllRows.{names_all, one_form}
-use Rattle.lt_cone.proofs.RightCones.{distinct, some_regulator, same_lengths, IsConeReady, cone_ready, one_list}
+use Rattle.lt_lp.proofs.RowSums.{IsConeReady}
+use Rattle.lt_regulator.proofs.Distinct.{one_list, regulator_lengths}
+use Rattle.lt_cone.proofs.RightCones.{rows_ready}
 use Rattle.lt_cone.proofs.checks.check_cone.Goals.{After-as_slice-2, After-first_wrong-wrong, After-dimension, After-form_of}
 use Rattle.lt_cone.proofs.checks.check_cone.Goals as goal
-
-numbers_all : (d : ℕ) (q : List ℤ) (t : List (List (List ℤ))) (ns : List (List ℤ)) → IsDelaunay d q t → AreRegulators d t ns → AreOfDimension d ns
-numbers_all d q t ns k r = same_lengths (numbers_of_form d) ns (distinct d q t ns k r).lengths (some_regulator d q t ns k r)
 
 -- a fault of one list of the regulators is one of each
 of_each : (d : ℕ) (t : List (List (List ℤ))) (ns : List (List ℤ)) (cone : Cone) (e : ConeFault) → AreRegulators d t ns → IsFault d ns cone e → (ms : List (List ℤ)) → AreRegulators d t ms → IsFault d ms cone e
@@ -53,7 +49,7 @@ pub returns-then-weight-clause-wrong : goal.returns-then-weight-clause-wrong
 returns-then-weight-clause-wrong c =
     let d = dimension_of c.args.t.now in
     let ns = c.in-Ok.normals.items in
-    let all = numbers_all d c.requires.0 c.args.t.now ns c.requires.1 c.in-Ok.ensures in
+    let all = regulator_lengths d c.requires.0 c.args.t.now ns c.requires.1 c.in-Ok.ensures in
     let w : c.weight.result ≡ pos (weight d ns) = rw (c.as_slice.ensures.value) at (c.weight.ensures d (rw (c.as_slice.ensures.value) all)) in
     of_each d c.args.t.now ns c.args.cone.now (Wrong (c.len-count.result + 1)) c.in-Ok.ensures (inl (heavy (weight d ns) (told (weight d ns) c.weight.result true (small d ns) w c.if-weight.true), ap (λ (m : ℕ). m + 1) (c.len-count.ensures ∙ c.in-Ok.normals.ok.0)))
 
@@ -62,7 +58,7 @@ light_there : (c : After-as_slice-2) → weight (dimension_of c.args.t.now) c.in
 light_there c =
     let d = dimension_of c.args.t.now in
     let ns = c.in-Ok.normals.items in
-    let all = numbers_all d c.requires.0 c.args.t.now ns c.requires.1 c.in-Ok.ensures in
+    let all = regulator_lengths d c.requires.0 c.args.t.now ns c.requires.1 c.in-Ok.ensures in
     let w : c.weight.result ≡ pos (weight d ns) = rw (c.as_slice.ensures.value) at (c.weight.ensures d (rw (c.as_slice.ensures.value) all)) in
     light (weight d ns) (told (weight d ns) c.weight.result false (small d ns) w c.if-weight.false)
 
@@ -70,7 +66,7 @@ pub first_wrong-wrong-requires : goal.first_wrong-wrong-requires
 first_wrong-wrong-requires c =
     let d = dimension_of c.args.t.now in
     let ns = c.in-Ok.normals.items in
-    let all = numbers_all d c.requires.0 c.args.t.now ns c.requires.1 c.in-Ok.ensures in
+    let all = regulator_lengths d c.requires.0 c.args.t.now ns c.requires.1 c.in-Ok.ensures in
     record { light = (d, rw (c.as_slice-2.ensures.value) all, rw (c.as_slice-2.ensures.value) (light_there c)) }
 
 count_is : (c : After-first_wrong-wrong) → c.len-count.result ≡ length c.in-Ok.normals.items
@@ -83,7 +79,7 @@ before : (c : After-first_wrong-wrong) (k : ℕ) → k < c.first_wrong-wrong.res
 before c =
     let d = dimension_of c.args.t.now in
     let ns = c.in-Ok.normals.items in
-    let all = numbers_all d c.requires.0 c.args.t.now ns c.requires.1 c.in-Ok.ensures in
+    let all = regulator_lengths d c.requires.0 c.args.t.now ns c.requires.1 c.in-Ok.ensures in
     moved (λ (xs : List (List ℤ)) (rows : List Row). (k : ℕ) → k < c.first_wrong-wrong.result → IsRowOf d xs rows k) c.as_slice-2.result.now ns c.as_slice-rows.result.now c.args.cone.now.rows c.as_slice-2.ensures.value (rows_are c)
     (c.first_wrong-wrong.ensures.before d (rw (c.as_slice-2.ensures.value) all))
 
@@ -91,7 +87,7 @@ pub returns-then-wrong-count-clause-wrong : goal.returns-then-wrong-count-clause
 returns-then-wrong-count-clause-wrong c =
     let d = dimension_of c.args.t.now in
     let ns = c.in-Ok.normals.items in
-    let all = numbers_all d c.requires.0 c.args.t.now ns c.requires.1 c.in-Ok.ensures in
+    let all = regulator_lengths d c.requires.0 c.args.t.now ns c.requires.1 c.in-Ok.ensures in
     let w = (goal.at.returns-then-wrong-count-clause-wrong c).After-first_wrong-wrong in
     let l : c.first_wrong-wrong.result < length ns = rw (count_is w) at c.if-wrong-count.true in
     let n = moved (λ (xs : List (List ℤ)) (rows : List Row). c.first_wrong-wrong.result < length xs → IsRowOf d xs rows c.first_wrong-wrong.result → ⊥) c.as_slice-2.result.now ns c.as_slice-rows.result.now c.args.cone.now.rows c.as_slice-2.ensures.value (rows_are w)
@@ -138,11 +134,11 @@ names_are c =
 verdicts_are : (c : After-dimension) (k : ℕ) (r : Row) → k < length c.args.cone.now.rows → IsRightVerdict (dimension_of c.args.t.now) c.in-Ok.normals.items k (get_or c.args.cone.now.rows k r).verdict
 verdicts_are c k r l = ((all_right c k (rw (rows_count c) at l)).1 r).1
 
-ready : (c : After-dimension) → IsConeReady (dimension_of c.args.t.now) c.dimension.result c.in-Ok.normals.items c.as_slice-rows.result.now
+ready : (c : After-dimension) → IsConeReady c.dimension.result c.as_slice-rows.result.now
 ready c =
     let d = dimension_of c.args.t.now in
     let ns = c.in-Ok.normals.items in
-    rw (rows_are (goal.at.form_of-requires-clause-few c).After-first_wrong-wrong) (cone_ready d c.dimension.result c.requires.0 c.args.t.now ns c.args.cone.now.rows c.requires.1 c.dimension.ensures c.in-Ok.ensures (names_are c) (verdicts_are c))
+    rw (rows_are (goal.at.form_of-requires-clause-few c).After-first_wrong-wrong) (rows_ready d c.dimension.result c.requires.0 c.args.t.now ns c.args.cone.now.rows c.requires.1 c.dimension.ensures c.in-Ok.ensures (names_are c) (verdicts_are c))
 
 pub form_of-requires-clause-few : goal.form_of-requires-clause-few
 form_of-requires-clause-few c = (ready c).few

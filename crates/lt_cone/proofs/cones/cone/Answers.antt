@@ -1,77 +1,64 @@
-use Rattle.std.proofs.Common.{◌≡◌, ◌∙◌, sym, subst, ◌<◌, ℕ, ℤ, List, length, get_or}
-use Rattle.lt_model.specs.Forms.{numbers_of_form}
-use Rattle.lt_model.specs.Cones.{Row, normals, IsRightVerdict}
-use Rattle.lt_model.specs.Limits.{weight, weight_limit}
+use Rattle.std.proofs.Common.{◌≡◌, subst, arith, ◌≤◌, ◌^◌, ℕ, ℤ, pos, List}
+use Rattle.std.proofs.lemmas.Int.{ints, to_z-of_z}
+use Rattle.std.proofs.Math.Nat.{min-le_left}
+use mir.Val.{SFits, to_z, of_z}
+use mir.Syntax.{w128}
+use Rattle.lt_model.specs.Cones.{IsRightCone}
+use Rattle.lt_model.specs.Limits.{weight}
 use Rattle.lt_triang.specs.Kept.{dimension_of}
-use Rattle.lt_cone.specs.Errors.{IsHeavyCone}
-use Rattle.lt_cone.proofs.RightCones.{distinct, some_regulator, same_lengths, IsConeReady, cone_ready, one_list}
-use Rattle.std.proofs.lemmas.Result.{err_from_is_err_and}
+use Rattle.lt_geometry.proofs.Fewness.{few_regulators}
+use Rattle.lt_lp.specs.declared.verdicts.LpError.{LpError}
+use Rattle.lt_lp.specs.declared.verdicts.LpError.TheVariants.{Heavy}
+use Rattle.lt_lp.specs.Rows.{IsConeOf}
+use Rattle.lt_lp.specs.Verdicts.{IsHeavyLp}
+use Rattle.lt_lp.proofs.ConesOf.{right_cone}
+use Rattle.lt_regulator.proofs.Distinct.{one_list, some_regulator, regulator_lengths, positive_at, regulator_rays}
+use Rattle.lt_cone.proofs.RightCones.{IsTold, dimension_is, told}
+use Rattle.lt_cone.proofs.cones.cone.Goals.{After-as_slice}
 use Rattle.lt_cone.proofs.cones.cone.Goals as goal
 
-pub rows_of-requires-clause-same : goal.rows_of-requires-clause-same
-rows_of-requires-clause-same c =
+it : (c : After-as_slice) → IsTold c.dimension-d.result c.requires.0 c.args.t.now c.in-Ok.normals.items
+it c = told (dimension_of c.args.t.now) c.dimension-d.result c.requires.0 c.args.t.now c.in-Ok.normals.items c.requires.1 c.dimension-d.ensures c.in-Ok.ensures
+
+pub cone_of-requires-clause-some : goal.cone_of-requires-clause-some
+cone_of-requires-clause-some c = rw (c.as_slice.ensures.value) (some_regulator _ _ _ _ (it c).delaunay (it c).regulators)
+
+pub cone_of-requires-clause-few : goal.cone_of-requires-clause-few
+cone_of-requires-clause-few c = rw (c.as_slice.ensures.value) (few_regulators _ _ _ _ c.dimension-d.ensures.low c.dimension-d.ensures.high (it c).delaunay (it c).regulators)
+
+pub cone_of-requires-clause-lengths : goal.cone_of-requires-clause-lengths
+cone_of-requires-clause-lengths c = rw (c.as_slice.ensures.value) (regulator_lengths _ _ _ _ (it c).delaunay (it c).regulators)
+
+pub cone_of-requires-clause-positive : goal.cone_of-requires-clause-positive
+cone_of-requires-clause-positive c = (c.requires.0, rw (c.as_slice.ensures.value) (positive_at _ _ _ _ (it c).delaunay (it c).regulators))
+
+pub cone_of-requires-clause-rays : goal.cone_of-requires-clause-rays
+cone_of-requires-clause-rays c = rw (c.as_slice.ensures.value) (regulator_rays _ _ _ _ (it c).delaunay (it c).regulators)
+
+pub returns-in-Ok-cone_of-clause-right : goal.returns-in-Ok-cone_of-clause-right
+returns-in-Ok-cone_of-clause-right c =
     let d = dimension_of c.args.t.now in
+    let e = c.dimension-d.result in
     let ns = c.in-Ok.normals.items in
-    let dis = distinct d c.requires.0 c.args.t.now ns c.requires.1 c.in-Ok.ensures in
-    let some = some_regulator d c.requires.0 c.args.t.now ns c.requires.1 c.in-Ok.ensures in
-    rw (c.as_slice.ensures.value) (λ k x l. same_lengths (numbers_of_form d) ns dis.lengths some k x l ∙ sym (dis.lengths 0 some))
+    let made : IsConeOf e ns c.in-Ok-cone_of.cone = subst (λ (ms : List (List ℤ)). IsConeOf e ms c.in-Ok-cone_of.cone) c.as_slice.ensures.value c.in-Ok-cone_of.ensures.right in
+    subst (λ (m : ℕ). IsRightCone m c.args.t.now c.in-Ok-cone_of.cone) (dimension_is d e c.requires.0 c.args.t.now c.requires.1 c.dimension-d.ensures)
+    (right_cone e c.args.t.now ns c.in-Ok-cone_of.cone (it (goal.at.returns-in-Ok-cone_of-clause-right c).After-as_slice).regulators made)
 
-pub rows_of-requires-clause-positive : goal.rows_of-requires-clause-positive
-rows_of-requires-clause-positive c =
-    let d = dimension_of c.args.t.now in
-    let dis = distinct d c.requires.0 c.args.t.now c.in-Ok.normals.items c.requires.1 c.in-Ok.ensures in
-    (c.requires.0, rw (c.as_slice.ensures.value) dis.positive)
+fits : (w : ℕ) → w ≤ 2 ^ 120 → SFits w128 (pos w)
+fits w h = omega (arith, ints, h)
 
-pub returns-in_err-rows-clause-heavy : goal.returns-in_err-rows-clause-heavy
-returns-in_err-rows-clause-heavy c =
+-- the weight that the error carries
+named : (x : ℤ) (w : ℕ) → w ≤ 2 ^ 120 → x ≡ pos w → to_z w128 (of_z w128 x) ≡ pos w
+named x w s e = rw e (to_z-of_z w128 (pos w) (fits w s))
+
+pub returns-in-Err-Heavy-clause-heavy : goal.returns-in-Err-Heavy-clause-heavy
+returns-in-Err-Heavy-clause-heavy c =
     let d = dimension_of c.args.t.now in
+    let e = c.dimension-d.result in
     let ns = c.in-Ok.normals.items in
-    let dis = distinct d c.requires.0 c.args.t.now ns c.requires.1 c.in-Ok.ensures in
-    let some = some_regulator d c.requires.0 c.args.t.now ns c.requires.1 c.in-Ok.ensures in
-    let long = same_lengths (numbers_of_form d) ns dis.lengths some in
-    let p = err_from_is_err_and c.from_residual.result c.from_residual.ensures.1 in
-    let heavy : IsHeavyCone (weight d ns) c.in_err-rows.field-0.0 = rw (c.as_slice.ensures.value) at (c.in_err-rows.ensures.heavy d (rw (c.as_slice.ensures.value) long)) in
-    let same : p.0 ≡ c.in_err-rows.field-0.0 = p.2 in
-    rw (p.1, same) (λ ms r. subst (λ (xs : List (List ℤ)). IsHeavyCone (weight d xs) c.in_err-rows.field-0.0) (one_list d c.args.t.now ns ms c.in-Ok.ensures r) heavy)
-
-ready : (c : goal.After-as_slice-2) → IsConeReady (dimension_of c.args.t.now) c.dimension-d.result c.in-Ok.normals.items c.in_ok-rows.rows.items
-ready c =
-    let d = dimension_of c.args.t.now in
-    let ns = c.in-Ok.normals.items in
-    let dis = distinct d c.requires.0 c.args.t.now ns c.requires.1 c.in-Ok.ensures in
-    let some = some_regulator d c.requires.0 c.args.t.now ns c.requires.1 c.in-Ok.ensures in
-    let long = same_lengths (numbers_of_form d) ns dis.lengths some in
-    let names = c.in_ok-rows.ensures.normals ∙ c.as_slice.ensures.value in
-    cone_ready d c.dimension-d.result c.requires.0 c.args.t.now ns c.in_ok-rows.rows.items c.requires.1 c.dimension-d.ensures c.in-Ok.ensures names (rw (c.as_slice.ensures.value) at (c.in_ok-rows.ensures.right d) long)
-
-pub form_of-form-requires-clause-few : goal.form_of-form-requires-clause-few
-form_of-form-requires-clause-few c = rw (c.as_slice-2.ensures.value) (ready c).few
-
-pub form_of-form-requires-clause-walls : goal.form_of-form-requires-clause-walls
-form_of-form-requires-clause-walls c = rw (c.as_slice-2.ensures.value) (ready c).walls
-
-pub form_of-form-requires-clause-long : goal.form_of-form-requires-clause-long
-form_of-form-requires-clause-long c = rw (c.as_slice-2.ensures.value) (ready c).long
-
-pub form_of-form-requires-clause-some : goal.form_of-form-requires-clause-some
-form_of-form-requires-clause-some c = rw (c.as_slice-2.ensures.value) (ready c).some
-
-pub returns-clause-right : goal.returns-clause-right
-returns-clause-right c =
-    let d = dimension_of c.args.t.now in
-    let ns = c.in-Ok.normals.items in
-    let dis = distinct d c.requires.0 c.args.t.now ns c.requires.1 c.in-Ok.ensures in
-    let some = some_regulator d c.requires.0 c.args.t.now ns c.requires.1 c.in-Ok.ensures in
-    let long = same_lengths (numbers_of_form d) ns dis.lengths some in
-    let names : normals c.in_ok-rows.rows.items ≡ ns = c.in_ok-rows.ensures.normals ∙ c.as_slice.ensures.value in
-    let back : c.as_slice.result.now ≡ ns = c.as_slice.ensures.value in
-    let right = subst (λ (ms : List (List ℤ)). (k : ℕ) (r : Row) → k < length c.in_ok-rows.rows.items → IsRightVerdict d ms k (get_or c.in_ok-rows.rows.items k r).verdict) (sym c.in_ok-rows.ensures.normals) (c.in_ok-rows.ensures.right d (rw back long)) in
-    record {
-      regulators = rw names c.in-Ok.ensures;
-      verdicts = right;
-      light = subst (λ (ms : List (List ℤ)). weight d ms < weight_limit) (sym c.in_ok-rows.ensures.normals) (c.in_ok-rows.ensures.light d (rw back long) (rw back some));
-      primitive = c.form_of-form.ensures.primitive;
-      factor = c.form_of-form.ensures.factor;
-      some = c.form_of-form.ensures.some;
-      sum = rw (← c.as_slice-2.ensures.value) c.form_of-form.ensures.times;
-    }
+    let x = c.in-Err-Heavy.weight in
+    let heavy : IsHeavyLp (weight e c.as_slice.result.now) (Heavy x) = subst (λ (y : LpError). IsHeavyLp (weight e c.as_slice.result.now) y) c.in-Err-Heavy.field-0-is c.in-Err-Heavy.ensures.heavy in
+    let here : IsHeavyLp (weight d ns) (Heavy x) = subst (λ (m : ℕ). IsHeavyLp (weight m ns) (Heavy x)) (dimension_is d e c.requires.0 c.args.t.now c.requires.1 c.dimension-d.ensures) (subst (λ (ms : List (List ℤ)). IsHeavyLp (weight e ms) (Heavy x)) c.as_slice.ensures.value heavy) in
+    λ ms r.
+    let there : IsHeavyLp (weight d ms) (Heavy x) = subst (λ (xs : List (List ℤ)). IsHeavyLp (weight d xs) (Heavy x)) (one_list d c.args.t.now ns ms c.in-Ok.ensures r) here in
+    (named x (weight d ms) (min-le_left (2 ^ 120) _) there.0, there.1)

@@ -1,4 +1,4 @@
-use Rattle.std.proofs.Common.{◌+◌, ◌-◌, ◌++◌, ◌∷◌, [], ◌∙◌, ap, length, arith, vec_capacity, refl}
+use Rattle.std.proofs.Common.{◌≤◌, subst, ◌+◌, ◌-◌, ◌++◌, ◌∷◌, [], ◌∙◌, ap, length, arith, vec_capacity, refl}
 use Rattle.std.specs.Prelude.{true}
 use Rattle.std.proofs.lemmas.List.{length-map}
 use Rattle.std.specs.declared.option.Option.TheVariants.{Some}
@@ -7,7 +7,9 @@ use Rattle.lt_core.specs.declared.marks.Entry.{Entry}
 use Rattle.lt_core.specs.declared.marks.Event.{Event}
 use Rattle.lt_core.specs.declared.marks.Mark.TheVariants.{Cross}
 use Rattle.lt_core.specs.Marks.{marks_of, entry_of, matrix_rows}
+use Rattle.lt_core.specs.Candidates.{candidate}
 use Rattle.lt_core.specs.Meaning.{value_of}
+use Rattle.lt_core.proofs.FewFacets.{few_new_rows}
 use Rattle.lt_core.proofs.Sounds.{entry_within, facet_within, some_open_here, open_inside, value_extended, keeps_extended}
 use Rattle.lt_core.proofs.atlas.Atlas.extend.Goals as goal
 
@@ -29,6 +31,14 @@ pub push_within-requires-3 : goal.push_within-requires-3
 push_within-requires-3 c =
     let some = some_open_here (value_of c.self.inside) c.self.inside.undecided c.self.inside.stuck (vec_capacity c.self.inside.log) c.args.position c.self.invariant (open_inside c.self.inside c.args.self.now c.args.position c.self.view_is c.requires.here) in
     omega (arith, c.in-Ok-make_room.ensures.ok, c.in-Some.ensures.1)
+
+pub overflow_cast-facets : goal.overflow_cast-facets
+overflow_cast-facets c =
+    let a = c.args.self.now in
+    let low : 2 ≤ a.dimension = subst (λ (z : model.Atlas). 2 ≤ z.dimension) c.self.view_is c.self.invariant.low in
+    let high : a.dimension ≤ 6 = subst (λ (z : model.Atlas). z.dimension ≤ 6) c.self.view_is c.self.invariant.high in
+    let few = few_new_rows a c.args.position (length a.entries) (candidate a c.args.position c.args.triangulation c.args.cone) low high c.requires.candidate in
+    omega (arith, few, c.facets-facets.ensures.fits)
 
 pub invariant_of-self-2 : goal.invariant_of-self-2
 invariant_of-self-2 c =

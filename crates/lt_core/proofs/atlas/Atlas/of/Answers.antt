@@ -3,10 +3,15 @@ use Rattle.std.proofs.lemmas.List.{length-map}
 use Rattle.lt_model.specs.Atlases as model
 use Rattle.lt_model.specs.RightAtlases.{open_places}
 use Rattle.lt_core.specs.declared.atlas.Atlas.TheInside.{Inside}
-use Rattle.lt_core.specs.Marks.{entry_of, marks_of}
+use Rattle.lt_core.specs.Marks.{mark_of, entry_of, marks_of}
 use Rattle.lt_core.specs.Sound.{IsSound}
+use Rattle.lt_core.proofs.FewFacets.{few_marks}
 use Rattle.lt_core.proofs.Sounds.{sound_fresh, value_fresh}
 use Rattle.lt_core.proofs.atlas.Atlas.of.Goals as goal
+
+pub open_queue-requires-clause-few_facets : goal.open_queue-requires-clause-few_facets
+open_queue-requires-clause-few_facets c =
+    rw (c.deref.ensures.value) (λ k l. few_marks c.args.dimension (map entry_of c.args.entries.items) (marks_of c.args.marks.items) c.requires.low c.requires.high c.requires.right k (let n = length-map c.args.marks.items (λ ms. map mark_of ms.items) in omega (arith, l, n)))
 
 pub invariant_of-result : goal.invariant_of-result
 invariant_of-result c =
