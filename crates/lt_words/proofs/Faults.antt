@@ -1,47 +1,69 @@
 -- Where words that are no command have their first fault.
-use Rattle.std.proofs.Common.{◌≡◌, ℕ, ◌+◌, ◌<◌, ◌≤◌, List, [], ◌∷◌, ◌++◌, length, get_or, refl, sym, ap, ◌∙◌, arith}
+use Rattle.std.proofs.Common.{◌≡◌, ℕ, ◌<◌, ◌≤◌, List, [], ◌∷◌, ◌⊎◌, inl, inr, length, get_or, codes, refl, ap, arith}
 use Rattle.std.specs.Fmt.{decimal}
-use Rattle.std.proofs.lemmas.Fmt.{decimal_digit}
 use Rattle.lt_words.specs.declared.words.Command.{Command}
-use Rattle.lt_words.specs.declared.words.Command.TheVariants.{Principal, Summary}
+use Rattle.lt_words.specs.declared.words.Command.TheVariants.{Principal, Summary, Run}
 use Rattle.lt_words.specs.declared.words.Kind.{Kind}
 use Rattle.lt_words.specs.declared.words.Kind.TheVariants as kind
-use Rattle.lt_words.specs.Grammar.{IsDimension, InRange, Spells, IsAccepted, Begins, FaultAt, kind_word}
+use Rattle.lt_words.specs.Grammar.{IsDimension, InRange, Spells, IsAccepted, FaultAt, HasFront, most_steps, kind_word}
+use Rattle.lt_words.proofs.Fronts.{begins, fault_at_end, fault_at_word}
 
 -- ---- the shape of the words of a command
 
--- a word of its kind and a dimension
-pub record HasShape (ws : List (List ℕ)) : Type 0 where
-  pub kind : Kind
-  pub dimension : ℕ
-  pub is_dimension : IsDimension dimension
-  pub words : ws ≡ kind_word kind ∷ decimal dimension ∷ []
+-- what stands behind the kind and the dimension
+abbrev IsTail : Kind → List (List ℕ) → Type 0
+IsTail k tail = (tail ≡ []) ⊎ ((steps : ℕ) × (k ≡ kind.Run) × (steps ≤ most_steps) × (tail ≡ codes "--steps" ∷ decimal steps ∷ []))
+
+-- a word of its kind, a dimension, and a tail
+record HasShape (ws : List (List ℕ)) : Type 0 where
+  kind : Kind
+  dimension : ℕ
+  tail : List (List ℕ)
+  is_dimension : IsDimension dimension
+  is_tail : IsTail kind tail
+  words : ws ≡ kind_word kind ∷ decimal dimension ∷ tail
 
 shape : (c : Command) (ws : List (List ℕ)) → InRange c → Spells c ws → HasShape ws
-shape (Principal d) ws r e = record { kind = kind.Principal; dimension = d; is_dimension = r; words = e }
-shape (Summary d) ws r e = record { kind = kind.Summary; dimension = d; is_dimension = r; words = e }
+shape (Principal d) ws r e = record { kind = kind.Principal; dimension = d; tail = []; is_dimension = r; is_tail = inl refl; words = e }
+shape (Summary d) ws r e = record { kind = kind.Summary; dimension = d; tail = []; is_dimension = r; is_tail = inl refl; words = e }
+shape (Run d steps) ws r (inl e) = record { kind = kind.Run; dimension = d; tail = codes "--steps" ∷ decimal steps ∷ []; is_dimension = r.0; is_tail = inr (steps, refl, r.1, refl); words = e }
+shape (Run d steps) ws r (inr e) = record { kind = kind.Run; dimension = d; tail = []; is_dimension = r.0; is_tail = inl refl; words = e.1 }
 
-pub begins_kind : (k : Kind) (d : ℕ) → IsDimension d → IsAccepted (kind_word k ∷ decimal d ∷ [])
-begins_kind kind.Principal d r = (Principal d, r, refl)
-begins_kind kind.Summary d r = (Summary d, r, refl)
+accepts_kind : (k : Kind) (d : ℕ) → IsDimension d → IsAccepted (kind_word k ∷ decimal d ∷ [])
+accepts_kind kind.Principal d r = (Principal d, r, refl)
+accepts_kind kind.Summary d r = (Summary d, r, refl)
+accepts_kind kind.Run d r = (Run d most_steps, (r, omega arith), inr (refl, refl))
 
-begins : (ws rest : List (List ℕ)) → IsAccepted (ws ++ rest) → Begins ws
-begins ws rest a = (a.0, rest, a.1, a.2)
+-- the words of a run with its option
+abbrev pub stepped : ℕ → List (List ℕ) → List (List ℕ)
+stepped d rest = codes "run" ∷ decimal d ∷ codes "--steps" ∷ rest
+
+accepts_steps : (d steps : ℕ) → IsDimension d → steps ≤ most_steps → IsAccepted (stepped d (decimal steps ∷ []))
+accepts_steps d steps r le = (Run d steps, (r, le), inl refl)
 
 two : IsDimension 2
 two = (omega arith, omega arith)
 
 -- ---- what stands in the front of a command
 
-front_one : (u : List ℕ) (rest : List (List ℕ)) → IsAccepted (u ∷ rest) → (k : Kind) × (u ≡ kind_word k)
-front_one u rest a =
+first_of : (u : List ℕ) (rest : List (List ℕ)) → IsAccepted (u ∷ rest) → (k : Kind) × (u ≡ kind_word k)
+first_of u rest a =
     let s = shape a.0 (u ∷ rest) a.1 a.2 in
     (s.kind, let w = s.words in cc)
 
-front_two : (u v : List ℕ) (rest : List (List ℕ)) → IsAccepted (u ∷ v ∷ rest) → (d : ℕ) × IsDimension d × (v ≡ decimal d) × (rest ≡ [])
-front_two u v rest a =
+second_of : (u v : List ℕ) (rest : List (List ℕ)) → IsAccepted (u ∷ v ∷ rest) → (d : ℕ) × IsDimension d × (v ≡ decimal d)
+second_of u v rest a =
     let s = shape a.0 (u ∷ v ∷ rest) a.1 a.2 in
-    (s.dimension, s.is_dimension, let w = s.words in cc, let w = s.words in cc)
+    (s.dimension, s.is_dimension, let w = s.words in cc)
+
+third_of : (u v w : List ℕ) (rest : List (List ℕ)) → IsAccepted (u ∷ v ∷ w ∷ rest) → (steps : ℕ) × (u ≡ codes "run") × (w ≡ codes "--steps") × (steps ≤ most_steps) × (rest ≡ decimal steps ∷ [])
+third_of u v w rest a =
+    let s = shape a.0 (u ∷ v ∷ w ∷ rest) a.1 a.2 in
+    let e = s.words in
+    elim s.is_tail [
+      | inl none ↦ absurd (cc)
+      | inr (steps, run, le, some) ↦ (steps, let k = ap kind_word run in cc, cc, le, cc)
+    ]
 
 not_empty : IsAccepted [] → ⊥
 not_empty a = let w = (shape a.0 [] a.1 a.2).words in cc
@@ -49,75 +71,44 @@ not_empty a = let w = (shape a.0 [] a.1 a.2).words in cc
 not_one : (u : List ℕ) → IsAccepted (u ∷ []) → ⊥
 not_one u a = let w = (shape a.0 (u ∷ []) a.1 a.2).words in cc
 
-accepted : (ws : List (List ℕ)) → (b : Begins ws) → IsAccepted (ws ++ b.1)
-accepted ws b = (b.0, b.2, b.3)
-
 -- ---- the faults
 
-pub fault_of_none : (ws : List (List ℕ)) → length ws ≡ 0 → FaultAt ws 0
-fault_of_none [] len = record {
-  within = omega arith;
-  before = begins [] (kind_word kind.Principal ∷ decimal 2 ∷ []) (begins_kind kind.Principal 2 two);
-  here = λ lt. absurd (omega (arith, lt));
-  outside = not_empty;
-}
-fault_of_none (u ∷ ws) len = absurd (omega (arith, len))
+pub no_word : (ws : List (List ℕ)) → length ws ≡ 0 → FaultAt ws 0
+no_word ws len = fault_at_end ws [] (ws, refl) len (begins [] _ (accepts_kind kind.Principal 2 two)) not_empty
 
 -- another first word
-pub fault_first : (ws : List (List ℕ)) → 0 < length ws → ((k : Kind) → get_or ws 0 [] ≡ kind_word k → ⊥) → FaultAt ws 0
-fault_first [] some other = absurd (omega (arith, some))
-fault_first (u ∷ ws) some other = record {
-  within = omega arith;
-  before = begins [] (kind_word kind.Principal ∷ decimal 2 ∷ []) (begins_kind kind.Principal 2 two);
-  here = λ lt b. let k = front_one u b.1 (accepted (u ∷ []) b) in other k.0 k.1;
-  outside = λ a. let k = front_one u ws a in other k.0 k.1;
-}
+pub other_kind : (ws : List (List ℕ)) → 0 < length ws → ((k : Kind) → get_or ws 0 [] ≡ kind_word k → ⊥) → FaultAt ws 0
+other_kind ws some other =
+    fault_at_word ws [] (ws, refl) some (begins [] _ (accepts_kind kind.Principal 2 two)) (λ rest a. let k = first_of (get_or ws 0 []) rest a in other k.0 k.1)
 
 -- the kind alone
-pub fault_of_one : (k : Kind) (rest : List (List ℕ)) → length (kind_word k ∷ rest) ≡ 1 → FaultAt (kind_word k ∷ rest) 1
-fault_of_one k [] len = record {
-  within = omega arith;
-  before = begins (kind_word k ∷ []) (decimal 2 ∷ []) (begins_kind k 2 two);
-  here = λ lt. absurd (omega (arith, lt));
-  outside = not_one (kind_word k);
-}
-fault_of_one k (v ∷ rest) len = absurd (omega (arith, len))
+pub no_dimension : (ws : List (List ℕ)) (k : Kind) → HasFront ws (kind_word k ∷ []) → length ws ≡ 1 → FaultAt ws 1
+no_dimension ws k front len = fault_at_end ws (kind_word k ∷ []) front len (begins (kind_word k ∷ []) (decimal 2 ∷ []) (accepts_kind k 2 two)) (not_one (kind_word k))
 
 -- another second word
-pub fault_second : (k : Kind) (v : List ℕ) (rest : List (List ℕ)) → ((d : ℕ) → IsDimension d → v ≡ decimal d → ⊥) → FaultAt (kind_word k ∷ v ∷ rest) 1
-fault_second k v rest other = record {
-  within = omega arith;
-  before = begins (kind_word k ∷ []) (decimal 2 ∷ []) (begins_kind k 2 two);
-  here = λ lt b. let s = front_two (kind_word k) v b.1 (accepted (kind_word k ∷ v ∷ []) b) in other s.0 s.1 s.2;
-  outside = λ a. let s = front_two (kind_word k) v rest a in other s.0 s.1 s.2;
-}
+pub other_dimension : (ws : List (List ℕ)) (k : Kind) → HasFront ws (kind_word k ∷ []) → 1 < length ws → ((d : ℕ) → IsDimension d → get_or ws 1 [] ≡ decimal d → ⊥) → FaultAt ws 1
+other_dimension ws k front lt other =
+    fault_at_word ws (kind_word k ∷ []) front lt (begins (kind_word k ∷ []) (decimal 2 ∷ []) (accepts_kind k 2 two)) (λ rest a. let d = second_of (kind_word k) (get_or ws 1 []) rest a in other d.0 d.1 d.2)
 
--- a third word
-pub fault_third : (k : Kind) (d : ℕ) (w : List ℕ) (rest : List (List ℕ)) → IsDimension d → FaultAt (kind_word k ∷ decimal d ∷ w ∷ rest) 2
-fault_third k d w rest r = record {
-  within = omega arith;
-  before = begins (kind_word k ∷ decimal d ∷ []) [] (begins_kind k d r);
-  here = λ lt b. let e = (front_two (kind_word k) (decimal d) (w ∷ b.1) (accepted (kind_word k ∷ decimal d ∷ w ∷ []) b)).3 in cc;
-  outside = λ a. let e = (front_two (kind_word k) (decimal d) (w ∷ rest) a).3 in cc;
-}
+-- another third word
+pub other_option : (ws : List (List ℕ)) (k : Kind) (d : ℕ) → IsDimension d → HasFront ws (kind_word k ∷ decimal d ∷ []) → 2 < length ws → (kind_word k ≡ codes "run" → get_or ws 2 [] ≡ codes "--steps" → ⊥) → FaultAt ws 2
+other_option ws k d r front lt other =
+    fault_at_word ws (kind_word k ∷ decimal d ∷ []) front lt (begins (kind_word k ∷ decimal d ∷ []) [] (accepts_kind k d r))
+    (λ rest a. let w = third_of (kind_word k) (decimal d) (get_or ws 2 []) rest a in other w.1 w.2)
 
--- ---- digits
+-- the option alone
+pub no_steps : (ws : List (List ℕ)) (d : ℕ) → IsDimension d → HasFront ws (stepped d []) → length ws ≡ 3 → FaultAt ws 3
+no_steps ws d r front len =
+    fault_at_end ws (stepped d []) front len (begins (stepped d []) (decimal 0 ∷ []) (accepts_steps d 0 r (omega arith))) (λ a. let w = (third_of (codes "run") (decimal d) (codes "--steps") [] a).4 in cc)
 
-decimal_is : (d : ℕ) → IsDimension d → decimal d ≡ (48 + d) ∷ []
-decimal_is d r = decimal_digit d (omega (arith, r.0, r.1))
+-- another number of steps
+pub other_steps : (ws : List (List ℕ)) (d : ℕ) → IsDimension d → HasFront ws (stepped d []) → 3 < length ws → ((steps : ℕ) → steps ≤ most_steps → get_or ws 3 [] ≡ decimal steps → ⊥) → FaultAt ws 3
+other_steps ws d r front lt other =
+    fault_at_word ws (stepped d []) front lt (begins (stepped d []) (decimal 0 ∷ []) (accepts_steps d 0 r (omega arith)))
+    (λ rest a. let w = third_of (codes "run") (decimal d) (codes "--steps") (get_or ws 3 [] ∷ rest) a in other w.0 w.3 (let e = w.4 in cc))
 
--- the digit of a dimension
-pub spelt : (bytes : List ℕ) (d : ℕ) → IsDimension d → bytes ≡ (48 + d) ∷ [] → bytes ≡ decimal d
-spelt bytes d r e = e ∙ sym (decimal_is d r)
-
--- a word of another length, or with another byte, spells no dimension
-pub spells_none : (bytes word : List ℕ) → bytes ≡ word → (length bytes ≡ 1 → 50 ≤ get_or bytes 0 0 → get_or bytes 0 0 ≤ 53 → ⊥) → (d : ℕ) → IsDimension d → word ≡ decimal d → ⊥
-spells_none bytes word is other d r e =
-    let s : bytes ≡ (48 + d) ∷ [] = is ∙ e ∙ decimal_is d r in
-    let b : get_or bytes 0 0 ≡ 48 + d = ap (λ l. get_or l 0 0) s in
-    other (ap length s) (omega (arith, b, r.0)) (omega (arith, b, r.1))
-
-pub one_byte : (bytes : List ℕ) → length bytes ≡ 1 → bytes ≡ get_or bytes 0 0 ∷ []
-one_byte [] len = absurd (omega (arith, len))
-one_byte (b ∷ []) len = refl
-one_byte (b ∷ c ∷ bytes) len = absurd (omega (arith, len))
+-- a fifth word
+pub a_word_more : (ws : List (List ℕ)) (d steps : ℕ) → IsDimension d → steps ≤ most_steps → HasFront ws (stepped d (decimal steps ∷ [])) → 4 < length ws → FaultAt ws 4
+a_word_more ws d steps r le front lt =
+    fault_at_word ws (stepped d (decimal steps ∷ [])) front lt (begins (stepped d (decimal steps ∷ [])) [] (accepts_steps d steps r le))
+    (λ rest a. let w = (third_of (codes "run") (decimal d) (codes "--steps") (decimal steps ∷ get_or ws 4 [] ∷ rest) a).4 in cc)

@@ -1,21 +1,52 @@
--- The faults of words of which a front is known.
-use Rattle.std.proofs.Common.{◌≡◌, ℕ, List, [], ◌∷◌, length, get_or, sym, ap, ◌∙◌, subst}
-use Rattle.std.specs.Fmt.{decimal}
-use Rattle.lt_words.specs.declared.words.Kind.{Kind}
-use Rattle.lt_words.specs.Grammar.{IsDimension, FaultAt, HasFront, kind_word}
-use Rattle.lt_words.proofs.Faults.{fault_of_one, fault_second, fault_third}
+-- Where the fault stands in words that begin with a known front.
+use Rattle.std.proofs.Common.{◌≡◌, ℕ, ◌+◌, ◌<◌, List, [], ◌∷◌, ◌++◌, length, get_or, take, refl, sym, ap, ◌∙◌, subst, arith, append_assoc, length-append}
+use Rattle.std.proofs.lemmas.List.{append-nil, get_or_at, take_at}
+use Rattle.lt_words.specs.Grammar.{IsAccepted, Begins, FaultAt, HasFront}
 
-pub at_one : (ws : List (List ℕ)) (k : Kind) → HasFront ws (kind_word k ∷ []) → length ws ≡ 1 → FaultAt ws 1
-at_one ws k (rest, e) len = subst (λ (l : List (List ℕ)). FaultAt l 1) (sym e) (fault_of_one k rest (sym (ap length e) ∙ len))
+-- a front of a command's words
+pub begins : (front rest : List (List ℕ)) → IsAccepted (front ++ rest) → Begins front
+begins front rest a = (a.0, rest, a.1, a.2)
 
-pub at_second : (ws : List (List ℕ)) (k : Kind) → HasFront ws (kind_word k ∷ []) → (length ws ≡ 1 → ⊥) → ((d : ℕ) → IsDimension d → get_or ws 1 [] ≡ decimal d → ⊥) → FaultAt ws 1
-at_second ws k ([], e) more other = absurd (more (ap length e))
-at_second ws k (v ∷ rest, e) more other = subst (λ (l : List (List ℕ)). FaultAt l 1) (sym e) (fault_second k v rest (λ d r is. other d r (ap (λ l. get_or l 1 []) e ∙ is)))
+accepted : (front : List (List ℕ)) → (b : Begins front) → IsAccepted (front ++ b.1)
+accepted front b = (b.0, b.2, b.3)
 
-pub at_third : (ws : List (List ℕ)) (k : Kind) (d : ℕ) → IsDimension d → HasFront ws (kind_word k ∷ []) → (length ws ≡ 1 → ⊥) → get_or ws 1 [] ≡ decimal d → (length ws ≡ 2 → ⊥) → FaultAt ws 2
-at_third ws k d r ([], e) one is two = absurd (one (ap length e))
-at_third ws k d r (v ∷ [], e) one is two = absurd (two (ap length e))
-at_third ws k d r (v ∷ w ∷ rest, e) one is two =
-    let same : v ≡ decimal d = sym (ap (λ l. get_or l 1 []) e) ∙ is in
-    let whole : ws ≡ kind_word k ∷ decimal d ∷ w ∷ rest = e ∙ ap (λ (z : List ℕ). kind_word k ∷ z ∷ w ∷ rest) same in
-    subst (λ (l : List (List ℕ)). FaultAt l 2) (sym whole) (fault_third k d w rest r)
+-- words as many as their front are no more
+front_alone : (ws front : List (List ℕ)) → HasFront ws front → length ws ≡ length front → ws ≡ front
+front_alone ws front ([], e) len = e ∙ append-nil front
+front_alone ws front (v ∷ rest, e) len = absurd (omega (arith, len, ap length e, length-append front (v ∷ rest)))
+
+-- and else there is a next word
+pub some_next : (ws front : List (List ℕ)) → HasFront ws front → (length ws ≡ length front → ⊥) → length front < length ws
+some_next ws front h other = let e = ap length h.1 ∙ length-append front h.0 in omega (arith, other, e)
+
+-- the front with the next word
+pub longer : (ws front : List (List ℕ)) (v : List ℕ) → HasFront ws front → length front < length ws → get_or ws (length front) [] ≡ v → HasFront ws (front ++ v ∷ [])
+longer ws front v ([], e) lt is = absurd (omega (arith, lt, ap length (e ∙ append-nil front)))
+longer ws front v (w ∷ rest, e) lt is =
+    let next : w ≡ v = sym (get_or_at front w rest [] (length front) refl) ∙ ap (λ (l : List (List ℕ)). get_or l (length front) []) (sym e) ∙ is in
+    (rest, e ∙ ap (λ (z : List ℕ). front ++ z ∷ rest) next ∙ sym (append_assoc front (v ∷ []) rest))
+
+front_taken : (ws front : List (List ℕ)) (n : ℕ) → HasFront ws front → length front ≡ n → take n ws ≡ front
+front_taken ws front n h len = ap (take n) h.1 ∙ take_at front h.0 n len
+
+-- the front begins a command and is none, and no word stands behind it
+pub fault_at_end : (ws front : List (List ℕ)) → HasFront ws front → length ws ≡ length front → Begins front → (IsAccepted front → ⊥) → FaultAt ws (length front)
+fault_at_end ws front h len before outside = record {
+  within = omega (arith, len);
+  before = subst Begins (sym (front_taken ws front (length front) h refl)) before;
+  here = λ lt. absurd (omega (arith, lt, len));
+  outside = λ a. outside (subst IsAccepted (front_alone ws front h len) a);
+}
+
+-- the front begins a command, and with the next word it begins none
+pub fault_at_word : (ws front : List (List ℕ)) → HasFront ws front → length front < length ws → Begins front → ((rest : List (List ℕ)) → IsAccepted (front ++ get_or ws (length front) [] ∷ rest) → ⊥) → FaultAt ws (length front)
+fault_at_word ws front h lt before none =
+    let v = get_or ws (length front) [] in
+    let next = longer ws front v h lt refl in
+    let here : Begins (front ++ v ∷ []) → ⊥ = λ b. none b.1 (subst IsAccepted (append_assoc front (v ∷ []) b.1) (accepted (front ++ v ∷ []) b)) in
+    record {
+      within = omega (arith, lt);
+      before = subst Begins (sym (front_taken ws front (length front) h refl)) before;
+      here = λ _ b. here (subst Begins (front_taken ws (front ++ v ∷ []) (length front + 1) next (length-append front (v ∷ []))) b);
+      outside = λ a. here (begins (front ++ v ∷ []) next.0 (subst IsAccepted next.1 a));
+    }

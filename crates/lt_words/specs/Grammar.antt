@@ -1,8 +1,8 @@
 -- The words of the command line.
-use Rattle.std.specs.Prelude.{◌≡◌, ℕ, ◌+◌, ◌<◌, ◌≤◌, List, [], ◌∷◌, ◌++◌, length, take, map, codes}
+use Rattle.std.specs.Prelude.{◌≡◌, ℕ, ◌+◌, ◌<◌, ◌≤◌, List, [], ◌∷◌, ◌++◌, ◌⊎◌, length, take, map, codes}
 use Rattle.std.specs.Fmt.{decimal}
 use Rattle.lt_words.specs.declared.words.Command.{Command}
-use Rattle.lt_words.specs.declared.words.Command.TheVariants.{Principal, Summary}
+use Rattle.lt_words.specs.declared.words.Command.TheVariants.{Principal, Summary, Run}
 use Rattle.lt_words.specs.declared.words.Kind.{Kind}
 use Rattle.lt_words.specs.declared.words.Kind.TheVariants as kind
 use Rattle.lt_words.specs.declared.words.WordsError.{WordsError}
@@ -17,15 +17,21 @@ texts ws = map (λ w. w.now) ws
 abbrev pub IsDimension : ℕ → Type 0
 IsDimension d = (2 ≤ d) × (d ≤ 5)
 
+-- the greatest number of steps of a run, and the number where none is named
+abbrev pub most_steps : ℕ
+most_steps = 100000
+
 -- a command's numbers are in the ranges of its words
 abbrev pub InRange : Command → Type 0
 InRange (Principal d) = IsDimension d
 InRange (Summary d) = IsDimension d
+InRange (Run d steps) = IsDimension d × (steps ≤ most_steps)
 
 -- the words are a spelling of the command
 abbrev pub Spells : Command → List (List ℕ) → Type 0
 Spells (Principal d) ws = ws ≡ codes "principal" ∷ decimal d ∷ []
 Spells (Summary d) ws = ws ≡ codes "summary" ∷ decimal d ∷ []
+Spells (Run d steps) ws = (ws ≡ codes "run" ∷ decimal d ∷ codes "--steps" ∷ decimal steps ∷ []) ⊎ ((steps ≡ most_steps) × (ws ≡ codes "run" ∷ decimal d ∷ []))
 
 -- the words are those of a command
 abbrev pub IsAccepted : List (List ℕ) → Type 0
@@ -51,6 +57,7 @@ place_of (Fault place) = place
 abbrev pub kind_word : Kind → List ℕ
 kind_word kind.Principal = codes "principal"
 kind_word kind.Summary = codes "summary"
+kind_word kind.Run = codes "run"
 
 -- the words begin with these
 abbrev pub HasFront : List (List ℕ) → List (List ℕ) → Type 0

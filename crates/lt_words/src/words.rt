@@ -1,6 +1,6 @@
-ghost use Rattle.std.specs.Prelude.{◌≡◌, ◌<◌, [], ◌∷◌, List, ℕ, length, get_or, codes, IsTrue, ◌↔◌, IfOk, IfErr, IfSome, IfNone};
+ghost use Rattle.std.specs.Prelude.{◌≡◌, ◌≢◌, ◌<◌, ◌≤◌, [], ◌∷◌, List, ℕ, length, get_or, codes, IsTrue, ◌↔◌, IfOk, IfErr, IfSome, IfNone};
 ghost use Rattle.std.specs.Fmt.{decimal};
-ghost use Rattle.lt_words.specs.Grammar.{texts, IsDimension, InRange, Spells, FaultAt, HasFront, place_of, kind_word};
+ghost use Rattle.lt_words.specs.Grammar.{texts, IsDimension, InRange, Spells, FaultAt, HasFront, most_steps, place_of, kind_word};
 ghost use Rattle.lt_words.specs.Laws.{EveryFaultHasOnePlace, NoCommandHasAFault, WordsSpellOneCommand};
 
 use thiserror::Error;
@@ -12,6 +12,9 @@ pub enum Command {
     Principal { d: u8 },
     /// `summary D`: print the counts of the starting atlas of dimension `d`, 2 to 5.
     Summary { d: u8 },
+    /// `run D --steps B`: enumerate in dimension `d`, 2 to 5. `steps` is the number of positions of the queue that
+    /// are settled, 0 to 100,000, and `run D` alone names the greatest.
+    Run { d: u8, steps: u64 },
 }
 
 /// Why words are no command.
@@ -28,7 +31,11 @@ pub enum WordsError {
 enum Kind {
     Principal,
     Summary,
+    Run,
 }
+
+/// The greatest number of steps, which `run D` alone takes.
+const MOST_STEPS: u64 = 100_000;
 
 fn word_at<'a>(words: &[&'a str], i: usize) -> &'a str
     requires { i < length words.now }
@@ -46,6 +53,8 @@ fn kind_of(word: &str) -> Option<Kind>
         Some(Kind::Principal)
     } else if word == "summary" {
         Some(Kind::Summary)
+    } else if word == "run" {
+        Some(Kind::Run)
     } else {
         None
     }
@@ -62,7 +71,32 @@ fn dimension_of(word: &str) -> Option<u8>
     }
 }
 
-/// The command of a kind and a dimension.
+/// Whether a word begins neither with a plus nor with a zero before another byte.
+fn is_bare(word: &str) -> bool
+    ensures { IsTrue result ↔ ((get_or word.now 0 0 ≢ 43) × (get_or word.now 0 0 ≡ 48 → length word.now ≡ 1)) }
+{
+    match word.as_bytes() {
+        [b'+', ..] => false,
+        [b'0', rest @ ..] => rest.is_empty(),
+        _ => true,
+    }
+}
+
+/// The number of steps that a word spells. `parse` takes a plus and zeros in front too.
+fn steps_of(word: &str) -> Option<u64>
+    ensures found { IfSome result (λ steps. (steps ≤ most_steps) × (word.now ≡ decimal steps)) }
+    ensures none { IfNone result ((steps : ℕ) → steps ≤ most_steps → word.now ≡ decimal steps → ⊥) }
+{
+    if !is_bare(word) {
+        return None;
+    }
+    match word.parse::<u64>() {
+        Ok(steps) if steps <= MOST_STEPS => Some(steps),
+        _ => None,
+    }
+}
+
+/// The command of a kind and a dimension, with no further word.
 fn command_of(kind: Kind, d: u8) -> Command
     requires { IsDimension d }
     ensures range { InRange result }
@@ -71,6 +105,52 @@ fn command_of(kind: Kind, d: u8) -> Command
     match kind {
         Kind::Principal => Command::Principal { d },
         Kind::Summary => Command::Summary { d },
+        Kind::Run => Command::Run {
+            d,
+            steps: MOST_STEPS,
+        },
+    }
+}
+
+/// The command `run`, with the number of steps to come.
+fn read_steps(words: &[&str], d: u8) -> Result<Command, WordsError>
+    requires dimension { IsDimension d }
+    requires front { HasFront (texts words.now) (codes "run" ∷ decimal d ∷ codes "--steps" ∷ []) }
+    ensures command { IfOk result (λ c. InRange c × Spells c (texts words.now)) }
+    ensures fault { IfErr result (λ e. FaultAt (texts words.now) (place_of e)) }
+{
+    if words.len() == 3 {
+        return Err(WordsError::Fault { place: 3 });
+    }
+    match steps_of(word_at(words, 3)) {
+        None => Err(WordsError::Fault { place: 3 }),
+        Some(steps) => {
+            if words.len() == 4 {
+                Ok(Command::Run { d, steps })
+            } else {
+                Err(WordsError::Fault { place: 4 })
+            }
+        }
+    }
+}
+
+/// The command of a kind and a dimension, with an option to come.
+fn read_option(words: &[&str], kind: Kind, d: u8) -> Result<Command, WordsError>
+    requires dimension { IsDimension d }
+    requires front { HasFront (texts words.now) (kind_word kind ∷ decimal d ∷ []) }
+    requires more { 2 < length words.now }
+    ensures command { IfOk result (λ c. InRange c × Spells c (texts words.now)) }
+    ensures fault { IfErr result (λ e. FaultAt (texts words.now) (place_of e)) }
+{
+    match kind {
+        Kind::Principal | Kind::Summary => Err(WordsError::Fault { place: 2 }),
+        Kind::Run => {
+            if word_at(words, 2) == "--steps" {
+                read_steps(words, d)
+            } else {
+                Err(WordsError::Fault { place: 2 })
+            }
+        }
     }
 }
 
@@ -89,7 +169,7 @@ fn read_dimension(words: &[&str], kind: Kind) -> Result<Command, WordsError>
             if words.len() == 2 {
                 Ok(command_of(kind, d))
             } else {
-                Err(WordsError::Fault { place: 2 })
+                read_option(words, kind, d)
             }
         }
     }

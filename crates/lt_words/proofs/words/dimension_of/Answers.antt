@@ -1,6 +1,6 @@
 use Rattle.std.proofs.Common.{◌≡◌, ◌+◌, ◌-◌, ◌∷◌, [], ap, ◌∙◌, sym, arith, get_or}
 use Rattle.lt_words.specs.Grammar.{IsDimension}
-use Rattle.lt_words.proofs.Faults.{spelt, spells_none, one_byte}
+use Rattle.lt_words.proofs.Numbers.{spelt, spells_none, one_byte}
 use Rattle.lt_words.proofs.words.dimension_of.Goals as goal
 
 pub returns-in-50-to-53-clause-found : goal.returns-in-50-to-53-clause-found

@@ -1,15 +1,15 @@
 use Rattle.std.proofs.Common.{◌≡◌, ◌∙◌, arith, length, rules, ◌<◌}
 use Rattle.std.proofs.lemmas.List.{length-map}
 use Rattle.lt_words.specs.Grammar.{texts}
-use Rattle.lt_words.proofs.Faults.{fault_first, fault_of_none}
+use Rattle.lt_words.proofs.Faults.{no_word, other_kind}
 use Rattle.lt_words.proofs.words.read_words.Goals as goal
 
 pub returns-then-is_empty-clause-fault : goal.returns-then-is_empty-clause-fault
 returns-then-is_empty-clause-fault c =
     let n : length c.args.words.now ≡ 0 = search rules in
-    fault_of_none (texts c.args.words.now) (omega (arith, n, length-map c.args.words.now (λ w. w.now)))
+    no_word (texts c.args.words.now) (omega (arith, n, length-map c.args.words.now (λ w. w.now)))
 
 pub returns-in-None-clause-fault : goal.returns-in-None-clause-fault
 returns-in-None-clause-fault c =
     let n : 0 < length c.args.words.now = search rules in
-    fault_first (texts c.args.words.now) (omega (arith, n, length-map c.args.words.now (λ w. w.now))) (λ k e. c.in-None.ensures.none k (c.word_at.ensures ∙ e))
+    other_kind (texts c.args.words.now) (omega (arith, n, length-map c.args.words.now (λ w. w.now))) (λ k e. c.in-None.ensures.none k (c.word_at.ensures ∙ e))
