@@ -1,10 +1,11 @@
 -- What the refusals say.
-use Rattle.std.specs.Prelude.{◌≡◌, ℕ, pos, ◌≤◌}
-use Rattle.lt_model.specs.Limits.{weight_limit}
+use Rattle.std.specs.Prelude.{◌≡◌, ℕ, ℤ, pos, ◌≤◌, List}
+use Rattle.lt_model.specs.Limits.{weight, weight_limit}
+use Rattle.lt_model.specs.Walls.{AreRegulators}
 use Rattle.lt_cone.specs.declared.error.ConeError.{ConeError}
 use Rattle.lt_cone.specs.declared.error.ConeError.TheVariants.{Heavy, Memory}
 
--- Heavy names a weight at the limit or above it; Memory says nothing
-abbrev pub IsHeavyCone : ℕ → ConeError → Type 0
-IsHeavyCone w (Heavy weight) = (weight ≡ pos w) × (weight_limit ≤ w)
-IsHeavyCone w Memory = Unit
+-- Heavy names the weight of the regulators of t, at the limit or above it; Memory says nothing
+abbrev pub IsHeavyCone : ℕ → List (List (List ℤ)) → ConeError → Type 0
+IsHeavyCone d t (Heavy w) = (ns : List (List ℤ)) × AreRegulators d t ns × (w ≡ pos (weight d ns)) × (weight_limit ≤ weight d ns)
+IsHeavyCone d t Memory = Unit

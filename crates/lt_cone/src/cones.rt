@@ -1,9 +1,7 @@
 //! The cone of a triangulation.
 
-ghost use Rattle.std.specs.Prelude.{ℕ, ℤ, List, IfOk, IfErr};
-ghost use Rattle.lt_model.specs.Walls.{AreRegulators};
+ghost use Rattle.std.specs.Prelude.{IfOk, IfErr};
 ghost use Rattle.lt_model.specs.Cones.{IsRightCone};
-ghost use Rattle.lt_model.specs.Limits.{weight};
 ghost use Rattle.lt_triang.specs.Kept.{dimension_of, IsOfSomeForm};
 ghost use Rattle.lt_cone.specs.Errors.{IsHeavyCone};
 
@@ -18,7 +16,7 @@ use std::alloc::Global;
 pub fn cone(alloc: Global, t: &Triangulation) -> Result<Cone, ConeError>
     requires { IsOfSomeForm t.now }
     ensures right { IfOk result (λ c. IsRightCone (dimension_of t.now) t.now c) }
-    ensures heavy { IfErr result (λ e. (ns : List (List ℤ)) → AreRegulators (dimension_of t.now) t.now ns → IsHeavyCone (weight (dimension_of t.now) ns) e) }
+    ensures heavy { IfErr result (λ e. IsHeavyCone (dimension_of t.now) t.now e) }
 {
     let d = t.dimension();
     let normals = match regulators(alloc, t) {

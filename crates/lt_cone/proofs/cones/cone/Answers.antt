@@ -12,7 +12,7 @@ use Rattle.lt_lp.specs.declared.verdicts.LpError.TheVariants.{Heavy}
 use Rattle.lt_lp.specs.Rows.{IsConeOf}
 use Rattle.lt_lp.specs.Verdicts.{IsHeavyLp}
 use Rattle.lt_lp.proofs.ConesOf.{right_cone}
-use Rattle.lt_regulator.proofs.Distinct.{one_list, some_regulator, regulator_lengths, positive_at, regulator_rays}
+use Rattle.lt_regulator.proofs.Distinct.{some_regulator, regulator_lengths, positive_at, regulator_rays}
 use Rattle.lt_cone.proofs.RightCones.{IsTold, dimension_is, told}
 use Rattle.lt_cone.proofs.cones.cone.Goals.{After-as_slice}
 use Rattle.lt_cone.proofs.cones.cone.Goals as goal
@@ -59,6 +59,4 @@ returns-in-Err-Heavy-clause-heavy c =
     let x = c.in-Err-Heavy.weight in
     let heavy : IsHeavyLp (weight e c.as_slice.result.now) (Heavy x) = subst (λ (y : LpError). IsHeavyLp (weight e c.as_slice.result.now) y) c.in-Err-Heavy.field-0-is c.in-Err-Heavy.ensures.heavy in
     let here : IsHeavyLp (weight d ns) (Heavy x) = subst (λ (m : ℕ). IsHeavyLp (weight m ns) (Heavy x)) (dimension_is d e c.requires.0 c.args.t.now c.requires.1 c.dimension-d.ensures) (subst (λ (ms : List (List ℤ)). IsHeavyLp (weight e ms) (Heavy x)) c.as_slice.ensures.value heavy) in
-    λ ms r.
-    let there : IsHeavyLp (weight d ms) (Heavy x) = subst (λ (xs : List (List ℤ)). IsHeavyLp (weight d xs) (Heavy x)) (one_list d c.args.t.now ns ms c.in-Ok.ensures r) here in
-    (named x (weight d ms) (min-le_left (2 ^ 120) _) there.0, there.1)
+    (ns, c.in-Ok.ensures, named x (weight d ns) (min-le_left (2 ^ 120) _) here.0, here.1)
