@@ -1,23 +1,33 @@
 -- What the flip, the matching and the cone say of the triangulation across a facet, in the words of the atlas.
-use Rattle.std.proofs.Common.{◌≡◌, ℕ, zero, suc, ℤ, pos, ◌*◌, ◌<◌, ◌≤◌, refl, arith, sym, ap, ◌∙◌, subst, List, [], length, get_or, take}
-use Rattle.std.specs.Prelude.{false, Result, Ok, Err, IfOk, IfErr}
+use Rattle.std.proofs.Common.{◌≡◌, ℕ, zero, suc, ℤ, pos, ◌*◌, ◌^◌, ◌<◌, ◌≤◌, refl, arith, sym, ap, ◌∙◌, subst, inl, inr, List, [], length, get_or}
+use mir.Val.{SFits, to_z, of_z}
+use mir.Syntax.{w128}
+use Rattle.std.proofs.lemmas.Int.{ints, to_z-of_z}
+use Rattle.std.proofs.Math.Nat.{min-le_left}
+use Rattle.std.specs.Prelude.{false, nat_abs, Result, Ok, Err, IfOk, IfErr}
 use Rattle.std.proofs.lemmas.List.{take_all}
 use Rattle.lt_model.specs.Flat.{rows}
-use Rattle.lt_model.specs.Limits.{span, span_limit, class_span}
+use Rattle.lt_model.specs.Limits.{span, span_limit, class_span, weight}
 use Rattle.lt_model.specs.Triangulations.{IsDelaunay}
-use Rattle.lt_model.specs.Walls.{IsFacet, IsAcross}
+use Rattle.lt_model.specs.Walls.{IsFacet, IsAcross, AreRegulators}
 use Rattle.lt_model.specs.Matrices.{AreEquivalent}
-use Rattle.lt_model.specs.Atlases.{Classes, Entry, Atlas, cross, wide, heavy, entry_at, place_at, facet_at}
+use Rattle.lt_model.specs.Atlases.{Classes, Entry, Atlas, cross, wide, heavy, entry_at, place_at, facet_at, push, grow}
 use Rattle.lt_model.specs.RightAtlases.{IsOpenAt}
-use Rattle.lt_model.specs.Logs.{IsKnown, IsWide, IsHeavy, IsLegal, IsStuck, IsUnlikeAll}
+use Rattle.lt_model.specs.Logs.{IsWide, IsHeavy, IsLegal, IsStuck, IsUnlikeAll, IsCandidate}
 use Rattle.lt_triang.specs.Kept.{dimension_of, IsOfSomeForm}
 use Rattle.lt_flip.specs.Flipped.{IsWideFlip}
 use Rattle.lt_flip.specs.declared.flips.FlipError.{FlipError}
 use Rattle.lt_flip.specs.declared.flips.FlipError.TheVariants.{Wide, Memory}
 use Rattle.lt_match.specs.Matches.{IsFirstMatch}
 use Rattle.lt_geometry.proofs.FlipOf.{flips_are_across}
+use Rattle.lt_model.specs.Cones.{Cone, IsRightCone}
+use Rattle.lt_cone.specs.Errors.{IsHeavyCone}
+use Rattle.lt_cone.specs.declared.error.ConeError.TheVariants.{Heavy}
+use Rattle.lt_core.specs.Candidates.{candidate}
+use Rattle.lt_core.proofs.Crossings.{HasForm}
+use Rattle.lt_core.proofs.Reaching.{classes_of_form}
 use Rattle.lt_core.specs.Marks.{matrix_rows, side}
-use Rattle.lt_crew.specs.Settled.{LiesAcross, IsNarrow, IsFirstKnown}
+use Rattle.lt_crew.specs.Settled.{LiesAcross, IsNarrow, IsFirstKnown, IsSettled}
 use Rattle.lt_crew.specs.Wide.{IsWideAcross}
 
 -- the triangulation t and the normal n that stand at position p, in dimension d
@@ -57,8 +67,6 @@ wide_here a p t n s c h low f facet w =
       first = λ i l. subst (λ (z : ℕ). class_span (get_or w.flipped i []) ≤ span_limit z) e (w.first.before i l);
       number = refl;
     }, w.span_is)
-
--- ---- answers of the flip
 
 module _ (a : Atlas) (p : ℕ) (t : Classes) (n : List ℤ) (h : StandsAt a p (dimension_of t) t n) where
   pub across_of : (r : Result Classes FlipError) → IfOk r (λ x. IsAcross (dimension_of t) t n x) → IfOk r (λ x. LiesAcross a p x)
@@ -119,3 +127,51 @@ wide_is_stuck a p tested t s k x w = record { no_cross = tt; across = t; is_acro
 
 pub heavy_is_stuck : (a : Atlas) (p : ℕ) (t : Classes) (w : ℕ) → LiesAcross a p t → IsHeavy a.dimension a.entries t w → IsStuck (IsAcross a.dimension) a p (length a.entries) (heavy w)
 heavy_is_stuck a p t w x h = record { no_cross = tt; across = t; is_across = x; cause = subst (λ (es : List Entry). IsHeavy a.dimension es t w) (sym (take_all (length a.entries) a.entries (omega arith))) h }
+
+-- ---- how a settled position ends
+
+narrow_form : (d : ℕ) (t : Classes) → IsNarrow d t → HasForm d t
+narrow_form d t n = (n.delaunay.0, subst (λ (z : ℕ). IsDelaunay z n.delaunay.0 t) n.dimension n.delaunay.1)
+
+module _ (a : Atlas) (p : ℕ) (t : Classes) (b : Atlas) (x : LiesAcross a p t) (n : IsNarrow a.dimension t) where
+  right_cone : (c : Cone) → IsRightCone (dimension_of t) t c → IsRightCone a.dimension t c
+  right_cone c r = subst (λ (z : ℕ). IsRightCone z t c) n.dimension r
+
+  pub new_entry : (c : Cone) (tested : ℕ) → IsRightCone (dimension_of t) t c → IsUnlikeAll a.dimension t a.entries → tested ≡ length a.entries → IsCandidate (IsAcross a.dimension) a p tested (candidate a p t c)
+  new_entry c tested r u e = record {
+    is_across = x;
+    right = record { classes = classes_of_form a.dimension t (narrow_form a.dimension t n); narrow = n.narrow; cone = right_cone c r };
+    unlike = λ i l. u i (omega (arith, l, e));
+  }
+
+  pub ends_new : (c : Cone) → IsRightCone (dimension_of t) t c → IsUnlikeAll a.dimension t a.entries → b ≡ grow a p (candidate a p t c) → IsSettled a p b
+  ends_new c r u e = record { across = t; is_across = x; end = inr (n.narrow, inr (inr (c, right_cone c r, u, e))) }
+
+  pub ends_known : (k : ℕ) (u : List (List ℤ)) → IsFirstKnown a t k u → b ≡ push a p (cross k u) → IsSettled a p b
+  ends_known k u f e = record { across = t; is_across = x; end = inr (n.narrow, inl (k, u, f, e)) }
+
+  pub too_heavy : (w : ℤ) → IsHeavyCone (dimension_of t) t (Heavy w) → IsUnlikeAll a.dimension t a.entries → (k : ℕ) × IsHeavy a.dimension a.entries t k × (nat_abs (to_z w128 (of_z w128 w)) ≡ k)
+  too_heavy w h u =
+      let d : ℕ = dimension_of t in
+      let k : ℕ = weight d h.0 in
+      let least : k ≤ 2 ^ 120 = min-le_left (2 ^ 120) _ in
+      let fits : SFits w128 (pos k) = omega (arith, ints, least) in
+      (k, record {
+        narrow = n.narrow;
+        new = u;
+        normals = h.0;
+        regulators = subst (λ (z : ℕ). AreRegulators z t h.0) n.dimension h.1;
+        number = ap (λ (z : ℕ). weight z h.0) n.dimension;
+        above = h.3;
+      }, ap (λ (z : ℤ). nat_abs (to_z w128 (of_z w128 z))) h.2 ∙ ap nat_abs (to_z-of_z w128 (pos k) fits))
+
+  pub ends_heavy : (k m : ℕ) → IsHeavy a.dimension a.entries t k → m ≡ k → b ≡ push a p (heavy m) → IsSettled a p b
+  ends_heavy k m h s e = record { across = t; is_across = x; end = inr (n.narrow, inr (inl (k, h, e ∙ ap (λ z. push a p (heavy z)) s))) }
+
+pub ends_wide : (a b : Atlas) (p : ℕ) (s : List (List ℤ)) (c : ℤ) (m : ℕ) → IsWideAcross a p (Wide s c) → m ≡ nat_abs c → b ≡ push a p (wide s m) → IsSettled a p b
+ends_wide a b p s c m w h e =
+    record { across = w.0; is_across = w.2; end = inl (s, w.1, w.3, e ∙ ap (λ z. push a p (wide s z)) (h ∙ ap nat_abs w.4)) }
+
+pub too_wide : (a : Atlas) (p tested : ℕ) (s : List (List ℤ)) (c : ℤ) (m : ℕ) → IsWideAcross a p (Wide s c) → m ≡ nat_abs c → IsStuck (IsAcross a.dimension) a p tested (wide s m)
+too_wide a p tested s c m w h =
+    subst (λ (z : ℕ). IsStuck (IsAcross a.dimension) a p tested (wide s z)) (sym (h ∙ ap nat_abs w.4)) (wide_is_stuck a p tested w.0 s w.1 w.2 w.3)

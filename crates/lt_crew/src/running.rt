@@ -51,11 +51,13 @@ pub fn run_alone(alloc: Global, atlas: Atlas, steps: u64) -> Ended
     let mut atlas = atlas;
     let mut position = 0;
     while position < steps && position < atlas.queued() {
+        atlas.keeps();
         match settle(alloc, &mut atlas, position) {
             Ok(()) => {}
             Err(_) => return end_of(atlas, true),
         }
         position += 1;
     }
+    atlas.keeps();
     end_of(atlas, false)
 }

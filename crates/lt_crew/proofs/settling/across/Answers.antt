@@ -1,13 +1,9 @@
-use Rattle.std.proofs.Common.{◌≡◌, sym, ◌∙◌, ap, IfOk, IfErr, List, ℤ}
-use Rattle.std.proofs.lemmas.Result.{IfOk-weaker}
+use Rattle.std.proofs.Common.{◌∙◌, ap}
 use Rattle.lt_model.specs.Cones.{Row}
-use Rattle.lt_model.specs.Limits.{span, span_limit}
-use Rattle.lt_model.specs.Atlases.{Classes}
-use Rattle.lt_model.specs.Walls.{IsAcross}
 use Rattle.lt_core.specs.Marks.{entry_of}
-use Rattle.lt_triang.specs.Kept.{dimension_of, IsOfSomeForm}
+use Rattle.lt_triang.specs.Kept.{dimension_of}
 use Rattle.lt_crew.proofs.Places.{stands_at, is_facet, form_here}
-use Rattle.lt_crew.proofs.Beyond.{StandsAt, lies_across, facet_here, across_of, narrow_of, wide_of}
+use Rattle.lt_crew.proofs.Beyond.{StandsAt, facet_here, across_of, narrow_of, wide_of}
 use Rattle.lt_crew.proofs.settling.across.Goals as goal
 
 pub flip-requires-clause-delaunay : goal.flip-requires-clause-delaunay
