@@ -1,4 +1,2 @@
-pub mod Light
 pub mod Outputs
 pub mod SameFacets
-pub mod Starts

@@ -9,7 +9,7 @@ use Rattle.lt_model.specs.Principal.{IsPrincipal, principal_numbers}
 use Rattle.lt_model.proofs.Sets.{same_members, simplex_cmp_total}
 use Rattle.lt_words.specs.declared.words.Command.{Command}
 use Rattle.lt_words.specs.declared.words.Command.TheVariants.{Principal, Summary}
-use Rattle.lt_cone.proofs.RightCones.{one_list}
+use Rattle.lt_regulator.proofs.Distinct.{one_list}
 use Rattle.ltypes.specs.Texts.{type_text}
 use Rattle.ltypes.specs.Summaries.{summary_text}
 use Rattle.ltypes.specs.Outputs.{IsSummary, IsOutput}
