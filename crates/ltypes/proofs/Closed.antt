@@ -1,6 +1,6 @@
 -- An atlas is closed exactly where it has no stuck and no open mark.
-use Rattle.std.proofs.Common.{◌≡◌, ℕ, zero, suc, ℤ, ◌+◌, ◌<◌, ◌≤◌, refl, arith, sym, ap, ◌∙◌, subst, List, [], ◌∷◌, length, get_or}
-use Rattle.lt_model.specs.Atlases.{Mark, open_mark, cross, wide, heavy, no_mark, Atlas, entry_at, mark_at, facets, one_if_open, one_if_stuck, count_in, undecided, stuck}
+use Rattle.std.proofs.Common.{◌≡◌, ℕ, zero, suc, ℤ, ◌+◌, ◌<◌, refl, arith, sym, ap, subst, List, [], ◌∷◌, length, get_or}
+use Rattle.lt_model.specs.Atlases.{Mark, open_mark, cross, wide, heavy, no_mark, Atlas, mark_at, one_if_open, one_if_stuck, count_in, undecided, stuck}
 use Rattle.lt_model.specs.RightAtlases.{AreRight, IsClosedAtlas}
 use Rattle.lt_model.specs.Walls.{IsAcross}
 
@@ -49,6 +49,6 @@ module _ (a : Atlas) (parts : AreRight (IsAcross a.dimension) a.dimension a.entr
   pub counts_of_closed : IsClosedAtlas a → undecided a.marks + stuck a.marks ≡ 0
   counts_of_closed c =
       all_counts a.marks
-          (λ j f hj hf.
-            let h : j < length a.entries = subst (λ (n : ℕ). j < n) parts.lists hj in
-            c j f h (subst (λ (n : ℕ). f < n) (parts.each j h) hf))
+      (λ j f hj hf.
+      let h : j < length a.entries = subst (λ (n : ℕ). j < n) parts.lists hj in
+      c j f h (subst (λ (n : ℕ). f < n) (parts.each j h) hf))

@@ -1,4 +1,4 @@
-pub mod Light
 pub mod Outputs
+pub mod Closed
+pub mod Ending
 pub mod SameFacets
-pub mod Starts

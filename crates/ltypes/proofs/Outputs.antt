@@ -1,4 +1,4 @@
--- Each command has one output.
+-- The commands that print counts and lists have one output each.
 use Rattle.std.proofs.Common.{◌≡◌, ℕ, ℤ, List, length, sym, ap, ap₂, subst, ◌∙◌}
 use Rattle.std.proofs.lemmas.List.{length-map}
 use Rattle.lt_model.specs.Order.{simplex_cmp}
@@ -7,12 +7,11 @@ use Rattle.lt_model.specs.Cones.{Row, Cone, IsRightCone, normals}
 use Rattle.lt_model.specs.Limits.{weight}
 use Rattle.lt_model.specs.Principal.{IsPrincipal, principal_numbers}
 use Rattle.lt_model.proofs.Sets.{same_members, simplex_cmp_total}
-use Rattle.lt_words.specs.declared.words.Command.{Command}
-use Rattle.lt_words.specs.declared.words.Command.TheVariants.{Principal, Summary}
-use Rattle.lt_cone.proofs.RightCones.{one_list}
+use Rattle.lt_regulator.proofs.Distinct.{one_list}
 use Rattle.ltypes.specs.Texts.{type_text}
 use Rattle.ltypes.specs.Summaries.{summary_text}
-use Rattle.ltypes.specs.Outputs.{IsSummary, IsOutput}
+use Rattle.ltypes.specs.Outputs.{IsPrincipalText, IsSummary}
+use Rattle.ltypes.specs.Laws.{EachOutputIsOne}
 use Rattle.ltypes.proofs.SameFacets.{one_facets}
 
 -- the classes of the principal triangulation are one ascending list
@@ -33,8 +32,8 @@ one_summary d x y (t, c, p, h, is) (u, e, q, k, same) =
     let one : u ≡ t = one_principal d u t q p in
     is ∙ same_counts d t c e h (subst (λ (v : List (List (List ℤ))). IsRightCone d v e) one k) ∙ ap (λ (v : List (List (List ℤ))). summary_text (length v) (length e.rows) (length (facets_of e.rows)) (weight d (normals e.rows))) (sym one) ∙ sym same
 
--- so the text of a command is one
-pub one_output : (c : Command) (x y : List ℕ) → IsOutput c x → IsOutput c y → x ≡ y
-one_output (Principal d) x y p q =
-    p.2 ∙ ap (λ t. type_text d (principal_numbers d) t) (one_principal d p.0 q.0 p.1 q.1) ∙ sym q.2
-one_output (Summary d) x y p q = one_summary d x y p q
+one_text : (d : ℕ) (x y : List ℕ) → IsPrincipalText d x → IsPrincipalText d y → x ≡ y
+one_text d x y p q = p.2 ∙ ap (λ t. type_text d (principal_numbers d) t) (one_principal d p.0 q.0 p.1 q.1) ∙ sym q.2
+
+pub each_is_one : EachOutputIsOne
+each_is_one d = (one_text d, one_summary d)

@@ -1,6 +1,7 @@
 -- The lines of a summary.
-use Rattle.std.specs.Prelude.{ℕ, pos, List, [], ◌∷◌, ◌++◌, codes}
+use Rattle.std.specs.Prelude.{ℕ, pos, List, [], ◌∷◌, ◌++◌, codes, length}
 use Rattle.std.specs.List.{flat_map}
+use Rattle.lt_model.specs.Atlases.{Entry, facets}
 use Rattle.lt_lines.specs.Lines.{line, right_in}
 use Rattle.ltypes.specs.Texts.{named}
 
@@ -26,3 +27,7 @@ last_line entries facets crossed undecided =
 abbrev pub summary_text : (classes regulators facets weight : ℕ) → List ℕ
 summary_text classes regulators facets weight =
     header ++ entry_line 0 classes regulators facets 0 facets weight ++ last_line 1 facets 0 facets
+
+-- the summary of the entry alone, with its weight
+abbrev pub entry_summary : Entry → ℕ → List ℕ
+entry_summary e weight = summary_text (length e.triangulation) (length e.cone.rows) (length (facets e)) weight

@@ -2,12 +2,13 @@ ghost use Rattle.std.specs.Prelude.{◌≡◌, ◌≤◌};
 ghost use Rattle.lt_words.specs.Grammar.{texts, IsDimension, InRange, place_of};
 ghost use Rattle.ltypes.specs.Texts.{code_of, err_text};
 ghost use Rattle.ltypes.specs.declared.status.Cause.TheVariants.{Words};
-ghost use Rattle.ltypes.specs.Outputs.{IsPrincipalText, IsSummary, IsOutput};
-ghost use Rattle.ltypes.specs.Answers.{Reports, Answers, AnswersWords};
-ghost use Rattle.ltypes.specs.Laws.{EveryCommandHasOneOutput};
+ghost use Rattle.ltypes.specs.Outputs.{IsPrincipalText, IsSummary};
+ghost use Rattle.ltypes.specs.Answers.{Reports, Answers, AnswersCommand, AnswersWords};
+ghost use Rattle.ltypes.specs.Laws.{EachOutputIsOne};
 
 use crate::gate::Gate;
 use crate::printed::write_type;
+use crate::run::run_alone_command;
 use crate::status::{Cause, Status};
 use crate::summary::{Start, write_summary};
 use lt_io::{Failed, Sink, Source};
@@ -76,12 +77,13 @@ pub fn summary_command<K: Sink, E: Sink>(alloc: Global, d: u8, out: &mut K, err:
 fn carry_out<K: Sink, E: Sink>(alloc: Global, command: Command, out: &mut K, err: &mut E) -> Status
     requires { InRange command }
     ensures code { result.code ≡ code_of result.cause }
-    ensures answer { Answers (IsOutput command) (K.held out.old) (K.held out.new) (K.faults out.old) (K.faults out.new) result.cause }
+    ensures answer { AnswersCommand command (K.held out.old) (K.held out.new) (K.faults out.old) (K.faults out.new) result.cause }
     ensures line { Reports (E.held err.old) (E.held err.new) (E.faults err.old) (E.faults err.new) (err_text result.cause) }
 {
     match command {
         Command::Principal { d } => principal_command(alloc, d, out, err),
         Command::Summary { d } => summary_command(alloc, d, out, err),
+        Command::Run { d, steps } => run_alone_command(alloc, d, steps, out, err),
     }
 }
 
@@ -123,7 +125,7 @@ pub fn ltypes<R: Threads + Wait + Sync, S: Source, K: Sink, E: Sink, G: Gate>(
     }
 }
 
-/// A law, with nothing to run: each command has one output at most, so the clauses above pin each byte.
+/// A law, with nothing to run: `principal` and `summary` have one output at most in each dimension, so the clauses above pin each byte.
 pub fn outputs_are_exact()
-    ensures { EveryCommandHasOneOutput }
+    ensures { EachOutputIsOne }
 {}

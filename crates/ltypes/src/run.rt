@@ -1,10 +1,12 @@
 //! The enumeration by one worker.
 
-ghost use Rattle.std.specs.Prelude.{◌≡◌, ◌≤◌, IfOk};
+ghost use Rattle.std.specs.Prelude.{◌≡◌, ◌<◌, ◌≤◌, ◌+◌, true, false};
+ghost use Rattle.lt_model.specs.Atlases.{undecided, stuck};
 ghost use Rattle.lt_words.specs.Grammar.{IsDimension, most_steps};
 ghost use Rattle.ltypes.specs.Texts.{code_of, err_text};
 ghost use Rattle.ltypes.specs.Answers.{Reports};
 ghost use Rattle.ltypes.specs.Runs.{AnswersRun};
+ghost use Rattle.ltypes.specs.declared.status.Cause.TheVariants.{Finished, Unfinished, Memory};
 
 use crate::status::{Cause, Status};
 use lt_core::Atlas;
@@ -14,7 +16,11 @@ use lt_text::write_atlas;
 use std::alloc::Global;
 
 /// How a run ends whose text was written.
-fn cause_of(ended: &Ended) -> Cause {
+fn cause_of(ended: &Ended) -> Cause
+    ensures memory { ended.now.memory ≡ true → result ≡ Memory }
+    ensures finished { ended.now.memory ≡ false → undecided ended.now.atlas.marks + stuck ended.now.atlas.marks ≡ 0 → result ≡ Finished }
+    ensures unfinished { ended.now.memory ≡ false → 0 < undecided ended.now.atlas.marks + stuck ended.now.atlas.marks → result ≡ Unfinished (stuck ended.now.atlas.marks) (undecided ended.now.atlas.marks) }
+{
     if ended.memory {
         return Cause::Memory;
     }
@@ -37,6 +43,7 @@ fn write_run<K: Sink>(alloc: Global, d: u8, steps: u64, out: &mut K) -> Cause
         return Cause::Memory;
     };
     let ended = run_alone(alloc, start, steps);
+    ended.atlas.keeps();
     match write_atlas(&ended.atlas, out) {
         Ok(()) => cause_of(&ended),
         Err(Failed) => Cause::WriteFault,

@@ -23,7 +23,9 @@ pub enum Cause {
         undecided: u64,
     },
     /// The words are no command: the first fault stands at `place`, counted from 0.
-    Words { place: u32 },
+    Words {
+        place: u32,
+    },
     /// Memory was refused.
     Memory,
     /// The sink for the output failed.

@@ -1,64 +1,51 @@
 //! The counts of the starting atlas.
 
-ghost use Rattle.std.specs.Prelude.{◌≡◌, ◌≤◌, ℕ, [], ◌∷◌, length, pos, IfOk};
+ghost use Rattle.std.specs.Prelude.{◌≡◌, ◌<◌, ◌≤◌, ℕ, [], ◌∷◌, length, pos, IfOk};
 ghost use Rattle.std.specs.List.{All};
 ghost use Rattle.lt_io.specs.Causes.{HasCause};
 ghost use Rattle.lt_io.specs.Bytes.{Wrote};
-ghost use Rattle.lt_model.specs.Atlases.{facets_of};
-ghost use Rattle.lt_model.specs.Cones.{IsRightCone, normals as normals_of};
+ghost use Rattle.lt_core.specs.Starts.{IsStarting};
+ghost use Rattle.lt_model.specs.Atlases.{entry_at};
+ghost use Rattle.lt_model.specs.Cones.{normals as normals_of};
 ghost use Rattle.lt_model.specs.Limits.{weight as weight_of};
-ghost use Rattle.lt_model.specs.Principal.{IsPrincipal};
 ghost use Rattle.lt_words.specs.Grammar.{IsDimension};
-ghost use Rattle.ltypes.specs.Summaries.{columns, entry_line, named, last_line, summary_text};
+ghost use Rattle.ltypes.specs.Summaries.{columns, entry_line, last_line, entry_summary};
 
-use lt_cone::{ConeError, cone};
-use lt_io::{Failed, Sink, write_all};
-use lt_lines::{write_count, write_line, write_part, write_right};
-use lt_lp::Cone;
-use lt_principal::principal;
+use crate::printed::write_named;
+use lt_core::Atlas;
+use lt_io::{Failed, Sink};
+use lt_lines::{write_count, write_line, write_right};
 use lt_regulator::regulators;
 use lt_tableau::weight;
-use lt_triang::Triangulation;
 use std::alloc::Global;
 
 /// Why there is no starting atlas: memory was refused.
 #[derive(Debug, Drop)]
 pub struct NoStart;
 
-/// The principal type with its cone and its weight.
+/// The starting atlas with the weight of its entry.
 #[derive(Drop)]
 pub struct Start {
-    triangulation: Triangulation,
-    cone: Cone,
+    atlas: Atlas,
     /// The one number at the end of the type's line.
     weight: [i128; 1],
 }
 
 impl Start {
-    /// The principal type of dimension `d`, 2 to 5.
+    /// The starting atlas of dimension `d`, 2 to 5.
     pub fn of(alloc: Global, d: u8) -> Result<Start, NoStart>
         requires { IsDimension d }
-        ensures principal { IfOk result (λ s. IsPrincipal d s.triangulation) }
-        ensures cone { IfOk result (λ s. IsRightCone d s.triangulation s.cone) }
-        ensures weight { IfOk result (λ s. s.weight ≡ pos (weight_of d (normals_of s.cone.rows)) ∷ []) }
+        ensures atlas { IfOk result (λ s. IsStarting d s.atlas) }
+        ensures weight { IfOk result (λ s. s.weight ≡ pos (weight_of d (normals_of (entry_at s.atlas.entries 0).cone.rows)) ∷ []) }
     {
-        let Ok(triangulation) = principal(alloc, d) else {
+        let Ok(atlas) = Atlas::start(alloc, d) else {
             return Err(NoStart);
         };
-        let Ok(normals) = regulators(alloc, &triangulation) else {
+        let Ok(normals) = regulators(alloc, &atlas.entry(0).triangulation) else {
             return Err(NoStart);
         };
-        let cone = match cone(alloc, &triangulation) {
-            Ok(cone) => cone,
-            Err(ConeError::Memory) => return Err(NoStart),
-            // No principal type is heavy.
-            Err(ConeError::Heavy { .. }) => unreachable!(),
-        };
-        Ok(Start {
-            triangulation,
-            cone,
-            weight: [weight(normals.as_slice())],
-        })
+        let weight = [weight(normals.as_slice())];
+        Ok(Start { atlas, weight })
     }
 }
 
@@ -99,15 +86,6 @@ fn write_entry<K: Sink>(
     write_line(out, b"", weight)
 }
 
-/// Writes a word and a count, with no end of line.
-fn write_named<K: Sink>(out: &mut K, word: &[u8], count: u64) -> Result<(), Failed>
-    ensures bytes { Wrote (K.held out.old) (K.held out.new) result (named word.now count) }
-    ensures cause { HasCause (K.faults out.old) (K.faults out.new) result }
-{
-    write_all(out, word)?;
-    write_part(out, &[count as i128])
-}
-
 /// Writes the totals of one entry, of which no facet is crossed.
 fn write_last<K: Sink>(out: &mut K, facets: u64) -> Result<(), Failed>
     ensures bytes { Wrote (K.held out.old) (K.held out.new) result (last_line 1 facets 0 facets) }
@@ -121,10 +99,12 @@ fn write_last<K: Sink>(out: &mut K, facets: u64) -> Result<(), Failed>
 
 /// Writes the summary of the atlas that has the principal type alone.
 pub fn write_summary<K: Sink>(out: &mut K, start: &Start) -> Result<(), Failed>
-    ensures bytes { (w : ℕ) → start.now.weight ≡ pos w ∷ [] → Wrote (K.held out.old) (K.held out.new) result (summary_text (length start.now.triangulation) (length start.now.cone.rows) (length (facets_of start.now.cone.rows)) w) }
+    requires { 0 < length start.now.atlas.entries }
+    ensures bytes { (w : ℕ) → start.now.weight ≡ pos w ∷ [] → Wrote (K.held out.old) (K.held out.new) result (entry_summary (entry_at start.now.atlas.entries 0) w) }
     ensures cause { HasCause (K.faults out.old) (K.faults out.new) result }
 {
-    let facets = start.cone.facets() as u64;
+    let entry = start.atlas.entry(0);
+    let facets = entry.cone.facets() as u64;
     write_line(
         out,
         b"  type simplices regulators facets crossed    open weight",
@@ -132,8 +112,8 @@ pub fn write_summary<K: Sink>(out: &mut K, start: &Start) -> Result<(), Failed>
     )?;
     write_entry(
         out,
-        start.triangulation.len() as u64,
-        start.cone.regulators() as u64,
+        entry.triangulation.len() as u64,
+        entry.cone.regulators() as u64,
         facets,
         &start.weight,
     )?;

@@ -1,5 +1,5 @@
-use Rattle.ltypes.proofs.Outputs.{one_output}
+use Rattle.ltypes.proofs.Outputs.{each_is_one}
 use Rattle.ltypes.proofs.command.outputs_are_exact.Goals as goal
 
 pub returns : goal.returns
-returns c = one_output
+returns c = each_is_one

@@ -3,7 +3,7 @@ use Rattle.std.specs.Prelude.{codes}
 use Rattle.std.proofs.lemmas.Result.{err_from_is_err_and}
 use Rattle.lt_io.proofs.Compose.{wrote_front, wrote_then, front_of_more, appended_then, appended_then_front}
 use Rattle.lt_lines.specs.Lines.{line}
-use Rattle.ltypes.specs.Summaries.{named}
+use Rattle.ltypes.specs.Texts.{named}
 use Rattle.ltypes.proofs.summary.write_last.Goals as goal
 
 abbrev entries : List ℕ

@@ -5,7 +5,7 @@ use Rattle.std.proofs.lemmas.Result.{err_from_is_err_and}
 use Rattle.lt_io.specs.Bytes.{Wrote}
 use Rattle.lt_io.proofs.Compose.{wrote_front, wrote_then, front_of_more}
 use Rattle.lt_lines.specs.Lines.{behind_spaces}
-use Rattle.ltypes.proofs.summary.write_named.Goals as goal
+use Rattle.ltypes.proofs.printed.write_named.Goals as goal
 
 pub returns-in_err-write_all-clause-bytes : goal.returns-in_err-write_all-clause-bytes
 returns-in_err-write_all-clause-bytes g c =
