@@ -37,11 +37,11 @@ module _ (d steps : ℕ) (a : Atlas) (old new : Option (List ℕ)) (before now :
       elim (cases_lt 0 (undecided a.marks + stuck a.marks)) [
         | inl some ↦ subst (λ (z : Cause). AnswersRun d steps old new before now z) (sym (u some)) (a, record { run = run; settled = s }, refl, refl, (λ c. let n = counts_of_closed a kept.right.parts c in omega (arith, n, some)), written)
         | inr most ↦ (
-          let none : undecided a.marks + stuck a.marks ≡ 0 = omega (arith, most) in
-          let closed = closed_by_counts a kept.right.parts (omega (arith, none)) (omega (arith, none)) in
-          let whole = subst (λ (z : ℕ). IsComplete z a) run.dimension (complete a low kept closed) in
-          subst (λ (z : Cause). AnswersRun d steps old new before now z) (sym (f none)) (a, record { run = run; settled = s }, whole, written)
-        )
+            let none : undecided a.marks + stuck a.marks ≡ 0 = omega (arith, most) in
+            let closed = closed_by_counts a kept.right.parts (omega (arith, none)) (omega (arith, none)) in
+            let whole = subst (λ (z : ℕ). IsComplete z a) run.dimension (complete a low kept closed) in
+            subst (λ (z : Cause). AnswersRun d steps old new before now z) (sym (f none)) (a, record { run = run; settled = s }, whole, written)
+            )
       ]
 
   pub answers : (memory : Bool) (cause : Cause) → (memory ≡ false → IsSettledBelow steps a) → (memory ≡ true → cause ≡ Memory) → (memory ≡ false → undecided a.marks + stuck a.marks ≡ 0 → cause ≡ Finished) → (memory ≡ false → 0 < undecided a.marks + stuck a.marks → cause ≡ Unfinished (stuck a.marks) (undecided a.marks)) → AnswersRun d steps old new before now cause
