@@ -6,3 +6,4 @@ pub mod Positive
 pub mod Facets
 pub mod Checks
 pub mod Alternatives
+pub mod Same

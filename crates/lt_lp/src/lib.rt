@@ -4,6 +4,7 @@
 mod checks;
 mod combinations;
 mod cones;
+mod copies;
 mod deciding;
 mod laws;
 mod primitives;
