@@ -10,6 +10,7 @@ ghost use Rattle.lt_core.specs.Candidates.{candidate};
 ghost use Rattle.lt_core.specs.Refusals.{standing_at, IsWhy, IsHeavyMark, IsMissed};
 ghost use Rattle.lt_core.specs.Marks.{mark_of, marks_of, entry_of, matrix_rows};
 
+use crate::copying::{entries_copy, log_copy, marks_copy, queue_copy};
 use crate::lists::{append_places, make_room, open_queue, opens_of, push_within, put};
 use crate::marks::{Entry, Event, Mark};
 use crate::refusals::{Already, Back, Missed, Why};
@@ -71,6 +72,22 @@ impl Atlas {
             log,
             undecided,
             stuck: 0,
+        })
+    }
+
+    /// A copy, or want of memory.
+    pub fn try_copy(&self) -> Result<Atlas, AllocError>
+        ensures { IfOk result (λ b. b ≡ self.now) }
+    {
+        let alloc = *self.entries.allocator();
+        Ok(Atlas {
+            dimension: self.dimension,
+            entries: entries_copy(alloc, &self.entries)?,
+            marks: marks_copy(alloc, &self.marks)?,
+            queue: queue_copy(alloc, &self.queue)?,
+            log: log_copy(alloc, &self.log, self.undecided)?,
+            undecided: self.undecided,
+            stuck: self.stuck,
         })
     }
 

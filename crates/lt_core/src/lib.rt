@@ -4,6 +4,7 @@
 ghost use Rattle.lt_core.specs.Laws.{EntriesAreReached, ClosedAtlasesAreComplete};
 
 mod atlas;
+mod copying;
 mod lists;
 mod marks;
 mod refusals;
