@@ -10,3 +10,7 @@ pub mod Crossings
 pub mod Reaching
 pub mod Writes
 pub mod Sounds
+pub mod Undone
+pub mod Begun
+pub mod Standing
+pub mod BeginsWith

@@ -5,3 +5,4 @@ pub mod Candidates
 pub mod Refusals
 pub mod Reached
 pub mod Laws
+pub mod Beginnings

@@ -4,6 +4,7 @@
 ghost use Rattle.lt_core.specs.Laws.{EntriesAreReached, ClosedAtlasesAreComplete};
 
 mod atlas;
+mod beginnings;
 mod copying;
 mod lists;
 mod marks;
