@@ -1,7 +1,8 @@
 -- Whether two verdicts, rows or cones are the same; the tests hold of equal ones alone.
-use Rattle.std.specs.Prelude.{◌≡◌, ℕ, ℤ, pos, List, [], Bool, true, false, ◌&&◌, ◌==◌, refl}
+use Rattle.std.specs.Prelude.{◌≡◌, ℕ, ℤ, pos, List, [], Bool, true, false, ◌&&◌, ◌==◌}
 use Rattle.std.proofs.Common.{ap, sym, ◌∙◌, subst}
 use Rattle.std.proofs.lemmas.Bool.{false≢true}
+use Rattle.std.proofs.lemmas.Bool.Decides.{Decides-and}
 use Rattle.std.specs.Ordering.{int_eq}
 use Rattle.std.specs.Bool.{Decides}
 use Rattle.std.specs.Cmp.{IsPartialEquivalence, decided, partial_equiv_from_equiv, on_per, unsigned_Decides, signed_Decides}
@@ -31,10 +32,7 @@ same_cone c e = pointwise same_row c.rows e.rows && same_numbers c.form e.form
 -- ---- they hold of equal ones alone
 
 both : {P Q R : Type 0} (a b : Bool) → Decides a P → Decides b Q → (P → Q → R) → (R → P) → (R → Q) → Decides (a && b) R
-both true true p q f g h = (λ e. f (p.0 refl) (q.0 refl), λ r. refl)
-both true false p q f g h = (λ e. absurd (false≢true e), λ r. q.1 (h r))
-both false true p q f g h = (λ e. absurd (false≢true e), λ r. p.1 (g r))
-both false false p q f g h = (λ e. absurd (false≢true e), λ r. p.1 (g r))
+both a b p q f g h = let d = Decides-and a b p q in (λ e. f (d.0 e).0 (d.0 e).1, λ r. d.1 (g r, h r))
 
 pub numbers_decide : (xs ys : List ℤ) → Decides (same_numbers xs ys) (xs ≡ ys)
 numbers_decide xs ys = pointwise_decides signed_Decides xs ys

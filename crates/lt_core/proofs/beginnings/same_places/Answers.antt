@@ -1,22 +1,16 @@
-use Rattle.std.proofs.Common.{◌≡◌, ℕ, ap, refl}
-use Rattle.std.specs.Prelude.{Bool, true, false, ◌&&◌, ◌==◌}
+use Rattle.std.proofs.Common.{◌≡◌, ℕ, ap}
+use Rattle.std.specs.Prelude.{◌&&◌, ◌==◌}
 use Rattle.std.specs.Bool.{Decides}
 use Rattle.std.specs.Cmp.{unsigned_Decides}
-use Rattle.std.proofs.lemmas.Bool.{false≢true}
+use Rattle.std.proofs.lemmas.Bool.Decides.{Decides-and}
 use Rattle.std.proofs.lemmas.Slice.Eq.{slice_eq-Decides}
 use Rattle.lt_core.proofs.Recording.{same_place}
 use Rattle.lt_core.proofs.beginnings.same_places.Goals as goal
 
-both : {P Q R : Type 0} (a b : Bool) → Decides a P → Decides b Q → (P → Q → R) → (R → P) → (R → Q) → Decides (a && b) R
-both true true p q f g h = (λ e. f (p.0 refl) (q.0 refl), λ r. refl)
-both true false p q f g h = (λ e. absurd (false≢true e), λ r. q.1 (h r))
-both false true p q f g h = (λ e. absurd (false≢true e), λ r. p.1 (g r))
-both false false p q f g h = (λ e. absurd (false≢true e), λ r. p.1 (g r))
-
 place_decides : (p q : ℕ × ℕ) → Decides ((p.0 == q.0) && (p.1 == q.1)) (p ≡ q)
 place_decides p q =
-    both (p.0 == q.0) (p.1 == q.1) (unsigned_Decides p.0 q.0) (unsigned_Decides p.1 q.1) (same_place p q)
-    (ap (λ (r : ℕ × ℕ). r.0)) (ap (λ (r : ℕ × ℕ). r.1))
+    let d = Decides-and (p.0 == q.0) (p.1 == q.1) (unsigned_Decides p.0 q.0) (unsigned_Decides p.1 q.1) in
+    (λ e. same_place p q (d.0 e).0 (d.0 e).1, λ s. d.1 (ap (λ (r : ℕ × ℕ). r.0) s, ap (λ (r : ℕ × ℕ). r.1) s))
 
 pub returns : goal.returns
 returns c = slice_eq-Decides place_decides c.args.places.now c.args.others.now c.eq.result c.eq.ensures
