@@ -13,3 +13,7 @@ pub mod Sounds
 pub mod Light
 pub mod FewFacets
 pub mod FirstEntry
+pub mod Undone
+pub mod Begun
+pub mod Standing
+pub mod BeginsWith

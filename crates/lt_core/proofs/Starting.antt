@@ -78,7 +78,7 @@ pub record IsInRows (k : ℕ) (mss : List (List Mark)) (p : ℕ × ℕ) (i : ℕ
   pub entry : p.0 ≡ k + i
   pub is_open : get_or (get_or mss i []) p.1 no_mark ≡ open_mark
 
-in_rows : (k : ℕ) (mss : List (List Mark)) (p : ℕ × ℕ) → Contains (open_places k mss) p → (i : ℕ) × IsInRows k mss p i
+pub in_rows : (k : ℕ) (mss : List (List Mark)) (p : ℕ × ℕ) → Contains (open_places k mss) p → (i : ℕ) × IsInRows k mss p i
 in_rows k [] p c = Contains-none p c
 in_rows k (ms ∷ mss) p c = by_cases (append_cases (open_in k 0 ms) (open_places (suc k) mss) p c) (λ r. in_rows (suc k) mss p r)
   where

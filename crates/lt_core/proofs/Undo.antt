@@ -33,7 +33,7 @@ mark_within ms p m h ne =
     let some : get_or ms p.0 [] ≡ [] → ⊥ = λ e. let l : length (get_or ms p.0 []) ≡ 0 = ap length e in absurd (omega arith) in
     (within ms p.0 [] (get_or ms p.0 []) refl some, second)
 
-open_is_some : open_mark ≡ no_mark → ⊥
+pub open_is_some : open_mark ≡ no_mark → ⊥
 open_is_some h = cc
 
 pub open_within : (ms : List (List Mark)) (p : ℕ × ℕ) → mark_at ms p ≡ open_mark → (p.0 < length ms) × (p.1 < length (get_or ms p.0 []))

@@ -6,3 +6,4 @@ pub mod Refusals
 pub mod Reached
 pub mod Laws
 pub mod Starts
+pub mod Beginnings

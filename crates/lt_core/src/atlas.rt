@@ -1,8 +1,8 @@
 //! The atlas and its recordings.
 
-ghost use Rattle.std.specs.Prelude.{◌≡◌, ◌≢◌, ◌<◌, ◌≤◌, ◌+◌, ◌^◌, ℕ, length, get_or, map, false, []};
+ghost use Rattle.std.specs.Prelude.{◌≡◌, ◌≢◌, ◌↔◌, IsTrue, ◌<◌, ◌≤◌, ◌+◌, ◌^◌, ℕ, length, get_or, map, false, []};
 ghost use Rattle.std.specs.Result.{OnOk, OnErr, IfOk, IfErr, MatchResult};
-ghost use Rattle.lt_model.specs.Atlases.{open_mark, cross, entry_at, mark_at, place_at, push, grow, undecided, stuck, one_if_stuck};
+ghost use Rattle.lt_model.specs.Atlases.{begin, open_mark, cross, entry_at, mark_at, place_at, push, grow, undecided, stuck, one_if_stuck};
 ghost use Rattle.lt_model.specs.Walls.{IsAcross};
 ghost use Rattle.lt_model.specs.Logs.{IsLegal, IsKept, IsCandidate, IsStuck};
 ghost use Rattle.lt_model.specs.RightAtlases.{IsOpenAt, AreRight, fresh_atlas};
@@ -10,6 +10,8 @@ ghost use Rattle.lt_core.specs.Candidates.{candidate};
 ghost use Rattle.lt_core.specs.Refusals.{standing_at, IsWhy, IsHeavyMark, IsMissed};
 ghost use Rattle.lt_core.specs.Marks.{mark_of, marks_of, entry_of, matrix_rows};
 
+use crate::beginnings::{all_stand, fresh_count, places_before, same_entries, same_places};
+use crate::copying::{entries_copy, log_copy, marks_copy, queue_copy};
 use crate::lists::{append_places, make_room, open_queue, opens_of, push_within, put};
 use crate::marks::{Entry, Event, Mark};
 use crate::refusals::{Already, Back, Missed, Why};
@@ -71,6 +73,43 @@ impl Atlas {
             undecided,
             stuck: 0,
         })
+    }
+
+    /// A copy, or want of memory.
+    pub fn try_copy(&self) -> Result<Atlas, AllocError>
+        ensures { IfOk result (λ b. b ≡ self.now) }
+    {
+        let alloc = *self.entries.allocator();
+        Ok(Atlas {
+            dimension: self.dimension,
+            entries: entries_copy(alloc, &self.entries)?,
+            marks: marks_copy(alloc, &self.marks)?,
+            queue: queue_copy(alloc, &self.queue)?,
+            log: log_copy(alloc, &self.log, self.undecided)?,
+            undecided: self.undecided,
+            stuck: self.stuck,
+        })
+    }
+
+    /// Whether `start` is this atlas without its events.
+    pub fn begins_with(&self, start: &Atlas) -> bool
+        ensures { IsTrue result ↔ (begin self.now ≡ start.now) }
+    {
+        if self.dimension != start.dimension {
+            return false;
+        }
+        if !start.log.is_empty() {
+            return false;
+        }
+        let entries = self.entries.len().saturating_sub(fresh_count(&self.log));
+        if !same_entries(&self.entries[..entries], &start.entries) {
+            return false;
+        }
+        let places = places_before(self.queue.len(), &self.marks[entries..]);
+        if !same_places(&self.queue[..places], &start.queue) {
+            return false;
+        }
+        all_stand(&start.marks, &self.marks)
     }
 
     /// The number of coordinates.

@@ -5,6 +5,8 @@ ghost use Rattle.lt_core.specs.Laws.{EntriesAreReached, ClosedAtlasesAreComplete
 
 mod atlas;
 mod first;
+mod beginnings;
+mod copying;
 mod lists;
 mod marks;
 mod refusals;

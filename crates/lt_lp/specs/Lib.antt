@@ -7,3 +7,4 @@ pub mod Facets
 pub mod Checks
 pub mod Alternatives
 pub mod Rows
+pub mod Same

@@ -6,6 +6,7 @@ mod combinations;
 mod cone_forms;
 mod cone_making;
 mod cones;
+mod copies;
 mod deciding;
 mod laws;
 mod primitives;
