@@ -1,4 +1,4 @@
-//! Verdicts on the normals of a list, by the pivot rule: a wall form, or a combination of the others.
+//! Verdicts on the normals of a list, by the pivot rule: a wall form, or a combination of the others; and the cone of the list.
 #![tactic(auto)]
 
 mod checks;
