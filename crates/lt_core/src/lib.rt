@@ -4,9 +4,9 @@
 ghost use Rattle.lt_core.specs.Laws.{EntriesAreReached, ClosedAtlasesAreComplete};
 
 mod atlas;
-mod first;
 mod beginnings;
 mod copying;
+mod first;
 mod lists;
 mod marks;
 mod refusals;

@@ -57,16 +57,20 @@ pub wide_here : (a : Atlas) (p : ℕ) (t : Classes) (n : List ℤ) (s : List (Li
 wide_here a p t n s c h low f facet w =
     let d : ℕ = dimension_of t in
     let two : 2 ≤ d = omega (arith, low, h.dimension) in
-    let e : d ≡ a.dimension = h.dimension in
-    (w.flipped, class_span s, lies_across a p d t w.flipped n h (flips_are_across d f.0 n t w.flipped two f.1 facet w.flip),
-    record {
-      place = w.place;
-      within = w.first.place;
-      member = sym w.class_is;
-      above = rw w.class_is (subst (λ (z : ℕ). span_limit z < class_span (get_or w.flipped w.place [])) e w.first.wide);
-      first = λ i l. subst (λ (z : ℕ). class_span (get_or w.flipped i []) ≤ span_limit z) e (w.first.before i l);
-      number = refl;
-    }, w.span_is)
+    let e : d ≡ a.dimension = h.dimension in (
+      w.flipped,
+      class_span s,
+      lies_across a p d t w.flipped n h (flips_are_across d f.0 n t w.flipped two f.1 facet w.flip),
+      record {
+        place = w.place;
+        within = w.first.place;
+        member = sym w.class_is;
+        above = rw w.class_is (subst (λ (z : ℕ). span_limit z < class_span (get_or w.flipped w.place [])) e w.first.wide);
+        first = λ i l. subst (λ (z : ℕ). class_span (get_or w.flipped i []) ≤ span_limit z) e (w.first.before i l);
+        number = refl;
+      },
+      w.span_is,
+    )
 
 module _ (a : Atlas) (p : ℕ) (t : Classes) (n : List ℤ) (h : StandsAt a p (dimension_of t) t n) where
   pub across_of : (r : Result Classes FlipError) → IfOk r (λ x. IsAcross (dimension_of t) t n x) → IfOk r (λ x. LiesAcross a p x)
@@ -155,15 +159,18 @@ module _ (a : Atlas) (p : ℕ) (t : Classes) (b : Atlas) (x : LiesAcross a p t) 
       let d : ℕ = dimension_of t in
       let k : ℕ = weight d h.0 in
       let least : k ≤ 2 ^ 120 = min-le_left (2 ^ 120) _ in
-      let fits : SFits w128 (pos k) = omega (arith, ints, least) in
-      (k, record {
-        narrow = n.narrow;
-        new = u;
-        normals = h.0;
-        regulators = subst (λ (z : ℕ). AreRegulators z t h.0) n.dimension h.1;
-        number = ap (λ (z : ℕ). weight z h.0) n.dimension;
-        above = h.3;
-      }, ap (λ (z : ℤ). nat_abs (to_z w128 (of_z w128 z))) h.2 ∙ ap nat_abs (to_z-of_z w128 (pos k) fits))
+      let fits : SFits w128 (pos k) = omega (arith, ints, least) in (
+        k,
+        record {
+          narrow = n.narrow;
+          new = u;
+          normals = h.0;
+          regulators = subst (λ (z : ℕ). AreRegulators z t h.0) n.dimension h.1;
+          number = ap (λ (z : ℕ). weight z h.0) n.dimension;
+          above = h.3;
+        },
+        ap (λ (z : ℤ). nat_abs (to_z w128 (of_z w128 z))) h.2 ∙ ap nat_abs (to_z-of_z w128 (pos k) fits),
+      )
 
   pub ends_heavy : (k m : ℕ) → IsHeavy a.dimension a.entries t k → m ≡ k → b ≡ push a p (heavy m) → IsSettled a p b
   ends_heavy k m h s e = record { across = t; is_across = x; end = inr (n.narrow, inr (inl (k, h, e ∙ ap (λ z. push a p (heavy z)) s))) }

@@ -27,14 +27,14 @@ returns-in-Some-clause-found c =
 
 pub loop-k-preserved : goal.loop-k-preserved
 loop-k-preserved c = λ i l.
-  let same = ap (λ (z : Entry). z.triangulation) c.entry.ensures in
-  elim (cases_lt i c.loop-k.k) [
-    | inl h ↦ c.loop-k.invariant i h
-    | inr h ↦ (
-      let e : i ≡ c.loop-k.k = omega (arith, l, h) in
-      subst (λ (z : ℕ). AreEquivalent c.args.atlas.now.dimension c.args.t.now (entry_at c.args.atlas.now.entries z).triangulation → ⊥) (sym e) (no_match c.args.atlas.now c.args.t.now c.entry.result.now.triangulation c.loop-k.k c.requires same (subst (λ r. MatchOption r (AreEquivalent (dimension_of c.args.t.now) c.args.t.now c.entry.result.now.triangulation → ⊥) (λ u. IsFirstMatch (dimension_of c.args.t.now) c.args.t.now c.entry.result.now.triangulation (rows (dimension_of c.args.t.now) u))) c.in-None.is c.in_ok-u.ensures.first))
-    )
-  ]
+    let same = ap (λ (z : Entry). z.triangulation) c.entry.ensures in
+    elim (cases_lt i c.loop-k.k) [
+      | inl h ↦ c.loop-k.invariant i h
+      | inr h ↦ (
+          let e : i ≡ c.loop-k.k = omega (arith, l, h) in
+          subst (λ (z : ℕ). AreEquivalent c.args.atlas.now.dimension c.args.t.now (entry_at c.args.atlas.now.entries z).triangulation → ⊥) (sym e) (no_match c.args.atlas.now c.args.t.now c.entry.result.now.triangulation c.loop-k.k c.requires same (subst (λ r. MatchOption r (AreEquivalent (dimension_of c.args.t.now) c.args.t.now c.entry.result.now.triangulation → ⊥) (λ u. IsFirstMatch (dimension_of c.args.t.now) c.args.t.now c.entry.result.now.triangulation (rows (dimension_of c.args.t.now) u))) c.in-None.is c.in_ok-u.ensures.first))
+          )
+    ]
 
 pub returns-clause-none : goal.returns-clause-none
 returns-clause-none c = λ i l. c.loop-k.invariant i (omega (arith, l, c.loop-k-test.false, c.entries-k-end.ensures))
