@@ -4,16 +4,15 @@ use mir.Val.{SFits, to_z, of_z}
 use mir.Syntax.{w128}
 use Rattle.std.proofs.lemmas.Int.{ints, to_z-of_z}
 use Rattle.std.proofs.Math.Nat.{min-le_left}
-use Rattle.std.specs.Prelude.{false, nat_abs, Result, Ok, Err, IfOk, IfErr}
+use Rattle.std.specs.Prelude.{nat_abs, Result, Ok, Err, IfOk, IfErr}
 use Rattle.std.proofs.lemmas.List.{take_all}
 use Rattle.lt_model.specs.Flat.{rows}
 use Rattle.lt_model.specs.Limits.{span, span_limit, class_span, weight}
 use Rattle.lt_model.specs.Triangulations.{IsDelaunay}
 use Rattle.lt_model.specs.Walls.{IsFacet, IsAcross, AreRegulators}
 use Rattle.lt_model.specs.Matrices.{AreEquivalent}
-use Rattle.lt_model.specs.Atlases.{Classes, Entry, Atlas, cross, wide, heavy, entry_at, place_at, facet_at, push, grow}
-use Rattle.lt_model.specs.RightAtlases.{IsOpenAt}
-use Rattle.lt_model.specs.Logs.{IsWide, IsHeavy, IsLegal, IsStuck, IsUnlikeAll, IsCandidate}
+use Rattle.lt_model.specs.Atlases.{Classes, Entry, Atlas, heavy, entry_at, place_at, facet_at, push, grow}
+use Rattle.lt_model.specs.Logs.{IsWide, IsHeavy, IsStuck, IsUnlikeAll, IsCandidate}
 use Rattle.lt_triang.specs.Kept.{dimension_of, IsOfSomeForm}
 use Rattle.lt_flip.specs.Flipped.{IsWideFlip}
 use Rattle.lt_flip.specs.declared.flips.FlipError.{FlipError}
@@ -123,12 +122,6 @@ no_match a t r k n e none h =
 
 -- ---- events
 
-pub known_is_legal : (a : Atlas) (p : ℕ) (t : Classes) (k : ℕ) (u : List (List ℤ)) → IsOpenAt a p → LiesAcross a p t → IsNarrow a.dimension t → IsFirstKnown a t k u → IsLegal (IsAcross a.dimension) a a.entries (record { position = p; mark = cross k u; fresh = false })
-known_is_legal a p t k u o x n f = record { position = o; across = t; is_across = x; cause = record { present = f.present; narrow = n.narrow; carries = f.first.first.«match».carries } }
-
-pub wide_is_stuck : (a : Atlas) (p tested : ℕ) (t : Classes) (s : List (List ℤ)) (k : ℕ) → LiesAcross a p t → IsWide a.dimension t s k → IsStuck (IsAcross a.dimension) a p tested (wide s k)
-wide_is_stuck a p tested t s k x w = record { no_cross = tt; across = t; is_across = x; cause = w }
-
 pub heavy_is_stuck : (a : Atlas) (p : ℕ) (t : Classes) (w : ℕ) → LiesAcross a p t → IsHeavy a.dimension a.entries t w → IsStuck (IsAcross a.dimension) a p (length a.entries) (heavy w)
 heavy_is_stuck a p t w x h = record { no_cross = tt; across = t; is_across = x; cause = subst (λ (es : List Entry). IsHeavy a.dimension es t w) (sym (take_all (length a.entries) a.entries (omega arith))) h }
 
@@ -151,9 +144,6 @@ module _ (a : Atlas) (p : ℕ) (t : Classes) (b : Atlas) (x : LiesAcross a p t) 
   pub ends_new : (c : Cone) → IsRightCone (dimension_of t) t c → IsUnlikeAll a.dimension t a.entries → b ≡ grow a p (candidate a p t c) → IsSettled a p b
   ends_new c r u e = record { across = t; is_across = x; end = inr (n.narrow, inr (inr (c, right_cone c r, u, e))) }
 
-  pub ends_known : (k : ℕ) (u : List (List ℤ)) → IsFirstKnown a t k u → b ≡ push a p (cross k u) → IsSettled a p b
-  ends_known k u f e = record { across = t; is_across = x; end = inr (n.narrow, inl (k, u, f, e)) }
-
   pub too_heavy : (w : ℤ) → IsHeavyCone (dimension_of t) t (Heavy w) → IsUnlikeAll a.dimension t a.entries → (k : ℕ) × IsHeavy a.dimension a.entries t k × (nat_abs (to_z w128 (of_z w128 w)) ≡ k)
   too_heavy w h u =
       let d : ℕ = dimension_of t in
@@ -174,11 +164,3 @@ module _ (a : Atlas) (p : ℕ) (t : Classes) (b : Atlas) (x : LiesAcross a p t) 
 
   pub ends_heavy : (k m : ℕ) → IsHeavy a.dimension a.entries t k → m ≡ k → b ≡ push a p (heavy m) → IsSettled a p b
   ends_heavy k m h s e = record { across = t; is_across = x; end = inr (n.narrow, inr (inl (k, h, e ∙ ap (λ z. push a p (heavy z)) s))) }
-
-pub ends_wide : (a b : Atlas) (p : ℕ) (s : List (List ℤ)) (c : ℤ) (m : ℕ) → IsWideAcross a p (Wide s c) → m ≡ nat_abs c → b ≡ push a p (wide s m) → IsSettled a p b
-ends_wide a b p s c m w h e =
-    record { across = w.0; is_across = w.2; end = inl (s, w.1, w.3, e ∙ ap (λ z. push a p (wide s z)) (h ∙ ap nat_abs w.4)) }
-
-pub too_wide : (a : Atlas) (p tested : ℕ) (s : List (List ℤ)) (c : ℤ) (m : ℕ) → IsWideAcross a p (Wide s c) → m ≡ nat_abs c → IsStuck (IsAcross a.dimension) a p tested (wide s m)
-too_wide a p tested s c m w h =
-    subst (λ (z : ℕ). IsStuck (IsAcross a.dimension) a p tested (wide s z)) (sym (h ∙ ap nat_abs w.4)) (wide_is_stuck a p tested w.0 s w.1 w.2 w.3)
