@@ -1,3 +1,5 @@
 pub mod Places
 pub mod Beyond
 pub mod Steps
+pub mod Queued
+pub mod Complete

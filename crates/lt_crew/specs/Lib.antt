@@ -1,3 +1,4 @@
 pub mod Settled
 pub mod Wide
 pub mod Runs
+pub mod Laws
