@@ -177,6 +177,7 @@ fn a_type_is_entered_once(rt: HostRuntime) -> Result<(), Fail> {
     let t = first_across(&rt, rt.alloc(), &atlas);
     let c = cone_with(&rt, rt.alloc(), &t);
     let again = first_across(&rt, rt.alloc(), &atlas);
+    assert!(rt; again == t);
     let (t, c) = untested(&rt, &mut atlas, t, c);
     assert_eq!(rt; atlas.entries(), 1);
     assert_eq!(rt; atlas.events(), 0);
@@ -239,10 +240,7 @@ fn a_position_is_settled(rt: HostRuntime) {
         assert!(rt; false);
         unreachable!()
     }
-    match settle(rt.alloc(), &mut atlas, 0) {
-        Ok(()) => {}
-        Err(_) => assert!(rt; false),
-    }
+    assert!(rt; settle(rt.alloc(), &mut atlas, 0).is_ok());
     assert_eq!(rt; atlas.events(), 1);
     assert_eq!(rt; atlas.entries(), 1);
     let cross = Mark::Cross {

@@ -5,7 +5,6 @@ use Rattle.lt_model.specs.Atlases.{facets, opens}
 use Rattle.lt_model.specs.Atlases as model
 use Rattle.lt_triang.proofs.SomeForm.{some_form}
 use Rattle.lt_core.specs.declared.marks.Entry.{Entry}
-use Rattle.lt_core.specs.declared.marks.Mark.{Mark}
 use Rattle.lt_core.specs.declared.marks.Mark.TheVariants.{Open}
 use Rattle.lt_core.specs.Marks.{entry_of, mark_of, marks_of}
 use Rattle.lt_core.specs.Starts.{first_entry}

@@ -1,4 +1,4 @@
-use Rattle.std.proofs.Common.{ap, arith, sym, subst, ◌∙◌, ◌<◌, ℕ, List, length, MatchOption}
+use Rattle.std.proofs.Common.{ap, arith, sym, subst, ◌∙◌, ◌<◌, length, MatchOption}
 use Rattle.lt_model.specs.Flat.{rows}
 use Rattle.lt_model.specs.Matrices.{AreEquivalent}
 use Rattle.lt_model.specs.Atlases.{Classes, Entry}
