@@ -1,2 +1,4 @@
 pub mod Dimensions
 pub mod PlaneNormals
+pub mod Candidates
+pub mod Parts

@@ -3,6 +3,8 @@
 #![tactic(auto)]
 
 #[cfg(test)]
+mod atlases;
+#[cfg(test)]
 mod cones;
 #[cfg(test)]
 mod flips;
