@@ -4,9 +4,10 @@ ghost use Rattle.std.specs.Prelude.{◌≡◌, ◌<◌, ◌≤◌, length};
 ghost use Rattle.lt_model.specs.Cones.{IsRightCone};
 ghost use Rattle.lt_model.specs.Matrices.{AreEquivalent};
 ghost use Rattle.lt_model.specs.Atlases.{entry_at};
-ghost use Rattle.lt_triang.specs.Kept.{dimension_of, IsOfSomeForm};
+ghost use Rattle.lt_triang.specs.Kept.{dimension_of};
 ghost use Rattle.lt_crew.specs.Settled.{LiesAcross, IsNarrow};
 
+use crate::cones::cone_of;
 use lt_cone::cone;
 use lt_core::{Atlas, Back, Entry, Mark, Why};
 use lt_crew::settle;
@@ -54,20 +55,6 @@ fn first_across(rt: &impl Abort, alloc: Global, atlas: &Atlas) -> Triangulation
     let row = entry.cone.facet(facet as usize);
     match flip(alloc, &entry.triangulation, &row.normal) {
         Ok(across) => across,
-        Err(_) => {
-            assert!(rt; false);
-            unreachable!()
-        }
-    }
-}
-
-/// The cone of a triangulation.
-fn cone_with(rt: &impl Abort, alloc: Global, t: &Triangulation) -> Cone
-    requires { IsOfSomeForm t.now }
-    ensures { IsRightCone (dimension_of t.now) t.now result }
-{
-    match cone(alloc, t) {
-        Ok(found) => found,
         Err(_) => {
             assert!(rt; false);
             unreachable!()
@@ -175,7 +162,7 @@ fn a_type_is_entered_once(rt: HostRuntime) -> Result<(), Fail> {
     let mut atlas = starting(&rt, rt.alloc(), 4);
     let begun = atlas.try_copy()?;
     let t = first_across(&rt, rt.alloc(), &atlas);
-    let c = cone_with(&rt, rt.alloc(), &t);
+    let c = cone_of(&rt, rt.alloc(), &t);
     let again = first_across(&rt, rt.alloc(), &atlas);
     assert!(rt; again == t);
     let (t, c) = untested(&rt, &mut atlas, t, c);
@@ -187,7 +174,7 @@ fn a_type_is_entered_once(rt: HostRuntime) -> Result<(), Fail> {
     enter(&rt, rt.alloc(), &mut atlas, t, c);
     assert_eq!(rt; atlas.entries(), 2);
     assert_eq!(rt; atlas.events(), 1);
-    let cone_again = cone_with(&rt, rt.alloc(), &again);
+    let cone_again = cone_of(&rt, rt.alloc(), &again);
     refused(&rt, &mut atlas, again, cone_again);
     assert!(rt; atlas.begins_with(&begun));
     let after = atlas.try_copy()?;

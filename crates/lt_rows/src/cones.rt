@@ -14,7 +14,7 @@ use std::process::Abort;
 use std::test::Fail;
 
 /// The cone of a triangulation.
-fn cone_of(rt: &impl Abort, alloc: Global, t: &Triangulation) -> Cone
+pub fn cone_of(rt: &impl Abort, alloc: Global, t: &Triangulation) -> Cone
     requires delaunay { IsOfSomeForm t.now }
     ensures { IsRightCone (dimension_of t.now) t.now result }
 {
