@@ -11,7 +11,7 @@ mod summary;
 pub use command::{ltypes, outputs_are_exact, principal_command, summary_command};
 pub use gate::{Gate, OpenGate};
 use lt_io::{LineSink, StdSink, StdSource};
-pub use run::run_alone_command;
+pub use run::{narrow_runs_finish, run_alone_command};
 pub use status::{Cause, Status};
 use std::env;
 use std::io::ErrorKind;

@@ -6,6 +6,7 @@ ghost use Rattle.lt_words.specs.Grammar.{IsDimension, most_steps};
 ghost use Rattle.ltypes.specs.Texts.{code_of, err_text};
 ghost use Rattle.ltypes.specs.Answers.{Reports};
 ghost use Rattle.ltypes.specs.Runs.{AnswersRun};
+ghost use Rattle.ltypes.specs.Laws.{NarrowRunsFinish};
 ghost use Rattle.ltypes.specs.declared.status.Cause.TheVariants.{Finished, Unfinished, Memory};
 
 use crate::status::{Cause, Status};
@@ -71,3 +72,9 @@ pub fn run_alone_command<K: Sink, E: Sink>(
 {
     write_run(alloc, d, steps, out).report(err)
 }
+
+/// A law, with nothing to run: where a run came to its end, met no triangulation above the limits of span and weight, and its queue is
+/// not longer than the step limit, every facet is crossed, so its answer is Finished.
+pub fn narrow_runs_finish()
+    ensures { NarrowRunsFinish }
+{}

@@ -1,0 +1,5 @@
+use Rattle.ltypes.proofs.Finishing.{narrow_runs}
+use Rattle.ltypes.proofs.run.narrow_runs_finish.Goals as goal
+
+pub returns : goal.returns
+returns c = narrow_runs
