@@ -1,11 +1,12 @@
 -- Words have a fault at one place at most, and are one command at most.
-use Rattle.std.proofs.Common.{◌≡◌, ℕ, ◌+◌, ◌<◌, ◌≤◌, List, [], ◌∷◌, ◌++◌, take, drop, codes, refl, inl, inr, sym, ap, subst, ◌∙◌, arith, append_assoc}
+use Rattle.std.proofs.Common.{◌≡◌, ℕ, zero, suc, ◌+◌, ◌<◌, ◌≤◌, List, [], ◌∷◌, ◌++◌, take, drop, codes, refl, inl, inr, sym, ap, subst, ◌∙◌, arith, append_assoc}
 use Rattle.std.proofs.lemmas.List.{take-append-drop, take-take}
 use Rattle.std.proofs.lemmas.Fmt.{decimal_injective}
 use Rattle.std.specs.Fmt.{decimal}
 use Rattle.lt_words.specs.declared.words.Command.{Command}
 use Rattle.lt_words.specs.declared.words.Command.TheVariants.{Principal, Summary, Run}
-use Rattle.lt_words.specs.Grammar.{IsDimension, InRange, Spells, Begins, FaultAt}
+use Rattle.lt_words.specs.Grammar.{IsDimension, InRange, Spells, Begins, FaultAt, most_steps}
+use Rattle.lt_model.specs.Limits.{step_limit}
 
 -- fewer words of a front begin a command too
 begins_before : (ws : List (List ℕ)) (p q : ℕ) → p ≤ q → Begins (take q ws) → Begins (take p ws)
@@ -49,3 +50,13 @@ one_command (Summary d) (Run d' s) ws r r' e f = absurd (no_run d' s (codes "sum
 one_command (Run d s) (Principal d') ws r r' e f = absurd (no_run d s (codes "principal") (decimal d') (λ g. cc) (subst (Spells (Run d s)) f e))
 one_command (Run d s) (Summary d') ws r r' e f = absurd (no_run d s (codes "summary") (decimal d') (λ g. cc) (subst (Spells (Run d s)) f e))
 one_command (Run d s) (Run d' s') ws r r' e f = one_run d d' s s' ws r r' e f
+
+-- the limit on steps is that of dimension 5 in each dimension of a command
+pub one_limit : (d : ℕ) → IsDimension d → step_limit d ≡ most_steps
+one_limit zero r = absurd (omega (arith, r.0))
+one_limit (suc zero) r = absurd (omega (arith, r.0))
+one_limit (suc (suc zero)) r = refl
+one_limit (suc (suc (suc zero))) r = refl
+one_limit (suc (suc (suc (suc zero)))) r = refl
+one_limit (suc (suc (suc (suc (suc zero))))) r = refl
+one_limit (suc (suc (suc (suc (suc (suc d)))))) r = absurd (omega (arith, r.1))

@@ -1,6 +1,7 @@
 -- The words of the command line.
 use Rattle.std.specs.Prelude.{◌≡◌, ℕ, ◌+◌, ◌<◌, ◌≤◌, List, [], ◌∷◌, ◌++◌, ◌⊎◌, length, take, map, codes}
 use Rattle.std.specs.Fmt.{decimal}
+use Rattle.lt_model.specs.Limits.{step_limit}
 use Rattle.lt_words.specs.declared.words.Command.{Command}
 use Rattle.lt_words.specs.declared.words.Command.TheVariants.{Principal, Summary, Run}
 use Rattle.lt_words.specs.declared.words.Kind.{Kind}
@@ -19,7 +20,7 @@ IsDimension d = (2 ≤ d) × (d ≤ 5)
 
 -- the greatest number of steps of a run, and the number where none is named
 abbrev pub most_steps : ℕ
-most_steps = 100000
+most_steps = step_limit 5
 
 -- a command's numbers are in the ranges of its words
 abbrev pub InRange : Command → Type 0

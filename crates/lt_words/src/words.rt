@@ -1,7 +1,7 @@
 ghost use Rattle.std.specs.Prelude.{◌≡◌, ◌≢◌, ◌<◌, ◌≤◌, [], ◌∷◌, List, ℕ, length, get_or, codes, IsTrue, ◌↔◌, IfOk, IfErr, IfSome, IfNone};
 ghost use Rattle.std.specs.Fmt.{decimal};
 ghost use Rattle.lt_words.specs.Grammar.{texts, IsDimension, InRange, Spells, FaultAt, HasFront, most_steps, place_of, kind_word};
-ghost use Rattle.lt_words.specs.Laws.{EveryFaultHasOnePlace, NoCommandHasAFault, WordsSpellOneCommand};
+ghost use Rattle.lt_words.specs.Laws.{EveryFaultHasOnePlace, NoCommandHasAFault, WordsSpellOneCommand, StepLimitsAreOne};
 
 use thiserror::Error;
 
@@ -191,9 +191,10 @@ pub fn read_words(words: &[&str]) -> Result<Command, WordsError>
 }
 
 /// A law, with nothing to run: a list of words has a fault at one place at most, none where it is a command,
-/// and spells one command at most.
+/// and spells one command at most; and the limit on steps is the same in each dimension that a command takes.
 pub fn faults_are_exact()
     ensures one_place { EveryFaultHasOnePlace }
     ensures none { NoCommandHasAFault }
     ensures one_command { WordsSpellOneCommand }
+    ensures one_limit { StepLimitsAreOne }
 {}
