@@ -1,3 +1,4 @@
+-- What writing a mark and growing the lists of an atlas make of its rows, its queue and its open places.
 use Rattle.std.proofs.Common.{◌≡◌, ℕ, zero, suc, ◌+◌, ◌<◌, refl, ap, arith, sym, ◌∙◌, List, [], ◌∷◌, ◌++◌, append_assoc, length-take-le, take, length, get_or, map, set, Vec}
 use Rattle.std.proofs.lemmas.List.{map-set, get_or-map, length-map, map-append, append-nil, take_more}
 use Rattle.std.specs.Vec.{with_item}
