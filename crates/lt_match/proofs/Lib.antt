@@ -13,3 +13,4 @@ pub mod Attempts
 pub mod Beginnings
 pub mod Firsts
 pub mod Spans
+pub mod Selected

@@ -17,6 +17,7 @@ ghost use Rattle.lt_match.specs.Matches.{in_order, BeginsWith, HasNoMatch, IsMat
 use crate::bases::{Basis, basis_of, matrix_taking};
 use crate::carrying::{all_go, comes_back};
 use arrayvec::ArrayVec;
+use lt_colour::signature;
 use lt_lattice::{Matrix, Point};
 use lt_model::Memory;
 use lt_triang::Triangulation;
@@ -129,20 +130,28 @@ fn search(
     None
 }
 
-/// The places of the members of `to` that may have a match, in ascending order.
+/// The places of the members of `to` that have the signature of the first class of `from`, in ascending order. A match takes that class
+/// to one of them.
 fn candidate_places(
     alloc: Global,
     d: usize,
     from: &Triangulation,
     to: &Triangulation,
 ) -> Result<Vec<usize>, Memory>
+    requires origin { IsTriangulation d from.now }
+    requires target { IsTriangulation d to.now }
+    requires delaunay { IsOfSomeForm from.now }
+    requires delaunay_too { IsOfSomeForm to.now }
     ensures { IfOk result (λ places. ArePlaces d from.now to.now places.items) }
 {
+    let first = signature(from, 0);
     let mut places = Vec::new(alloc);
     for n in 0..to.len() {
-        match places.push(n) {
-            Ok(()) => {}
-            Err(_) => return Err(Memory),
+        if signature(to, n).as_slice() == first.as_slice() {
+            match places.push(n) {
+                Ok(()) => {}
+                Err(_) => return Err(Memory),
+            }
         }
     }
     Ok(places)

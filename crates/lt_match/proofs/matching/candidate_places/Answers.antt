@@ -1,19 +1,24 @@
-use Rattle.std.proofs.Common.{arith, ◌≡◌, ◌<◌, ◌∙◌, ℕ, List, length, get_or, inl}
-use Rattle.std.proofs.lemmas.List.{get_or_default}
-use Rattle.std.specs.List.{Contains}
+use Rattle.std.proofs.Common.{arith, ◌≡◌, ◌∙◌, List, ℤ, sym}
+use Rattle.std.specs.Cmp.Rules.{signed_items}
+use Rattle.lt_match.proofs.Selected.{all_places, place_passed, place_taken, no_match}
 use Rattle.lt_match.proofs.matching.candidate_places.Goals as goal
+use Rattle.lt_match.proofs.matching.candidate_places.Goals.{then-eq+in-Ok, else-eq}
 
-there : (places : List ℕ) (n m : ℕ) → length places ≡ m → ((i : ℕ) → i < m → get_or places i 0 ≡ i) → n < m → Contains places n
-there places n m l each h = (n, omega (arith, l, h), get_or_default places n n 0 (omega (arith, l, h)) ∙ each n h)
+pub loop-n-preserved : goal.loop-n-preserved
+loop-n-preserved c =
+    let d = c.args.d in
+    let from = c.args.from.now in
+    let to = c.args.to.now in
+    let a : List ℤ = c.signature-first.result.items in
+    let b : List ℤ = c.signature.result.items in
+    elim c.if-eq.branch [
+      | then-eq+in-Ok w ↦ rw (w.places-is, w.in-Ok.ensures.items) (place_taken d from to c.loop-n.n c.loop-n.places.items c.loop-n.invariant)
+      | else-eq w ↦
+          let differ : b ≡ a → ⊥ = λ e. (let p = (signed_items c.as_slice.result.now c.as_slice-in-loop-n.result.now).1 (c.as_slice.ensures.value ∙ e ∙ sym c.as_slice-in-loop-n.ensures.value) in let f = w.if-eq.ensures in cc) in
+          let none = no_match d from to c.loop-n.n a b c.requires.origin c.requires.target c.requires.delaunay c.requires.delaunay_too (omega (arith, c.loop-n-test.true, c.len-n-end.ensures)) c.signature-first.ensures c.signature.ensures differ in
+          rw w.places-is (place_passed d from to c.loop-n.n c.loop-n.places.items c.loop-n.invariant none)
+    ]
 
 pub returns : goal.returns
 returns c =
-    let places = c.loop-n.places.items in
-    let count = c.loop-n.invariant.count in
-    let each = c.loop-n.invariant.each in
-    let full : c.loop-n.n ≡ length c.args.to.now = omega (arith, c.loop-n-test.false, c.loop-n.auto.n-end, c.len-n-end.ensures) in
-    record {
-      within = λ i h. (let e = each i (omega (arith, count, h)) in omega (arith, e, count, h, full));
-      ascending = λ i j l h. (let e = each i (omega (arith, count, h, l)) in let f = each j (omega (arith, count, h)) in omega (arith, e, f, l));
-      all = λ n h. inl (there places n c.loop-n.n count each (omega (arith, full, h)));
-    }
+    all_places c.args.d c.args.from.now c.args.to.now c.loop-n.n c.loop-n.places.items (omega (arith, c.loop-n-test.false, c.loop-n.auto.n-end, c.len-n-end.ensures)) c.loop-n.invariant

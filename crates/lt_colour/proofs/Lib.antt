@@ -1,0 +1,4 @@
+pub mod Ordered
+pub mod Signed
+pub mod OneSignature
+pub mod Numbers
