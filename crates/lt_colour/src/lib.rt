@@ -4,4 +4,5 @@
 mod pairs;
 mod signatures;
 
-pub use signatures::{signature, signatures_are_invariant};
+pub use pairs::PairSignature;
+pub use signatures::{pair_signatures, signature, signatures_are_invariant};

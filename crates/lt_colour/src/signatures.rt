@@ -11,8 +11,8 @@ use crate::pairs::{PairSignature, pair_signature};
 use arrayvec::ArrayVec;
 use lt_triang::Triangulation;
 
-/// The signatures of the pairs at the facets of the class at place `class`, in the order of facets.
-fn pair_signatures(t: &Triangulation, class: usize) -> ArrayVec<PairSignature, 7>
+/// The signatures of the pairs at the d + 1 facets of the class at place `class`, in the order of facets.
+pub fn pair_signatures(t: &Triangulation, class: usize) -> ArrayVec<PairSignature, 7>
     requires class { class < length t.now }
     ensures { ArePairSignatures (dimension_of t.now) t.now (get_or t.now class []) result.items }
 {

@@ -13,7 +13,7 @@ use Rattle.lt_model.proofs.Sets.{Contains-tail}
 use Rattle.lt_model.proofs.Walk.{length-without}
 use Rattle.lt_geometry.proofs.Candidates.{below, down_from, down_below, length-down, distinct_down}
 use Rattle.lt_geometry.proofs.Rearranged.{IsDistinct, other_place, no_longer, arranged_from, arranged_members}
-use Rattle.lt_match.specs.Matches.{BeginsWith, IsBeginning, IsEarlier, HasNoMatch, IsMatch, IsFirstOrder}
+use Rattle.lt_match.specs.Matches.{BeginsWith, AreSigned, IsBeginning, IsEarlier, HasNoMatch, IsMatch, IsFirstOrder}
 
 same_numbers : (xs ys : List ℕ) → length xs ≡ length ys → ((i : ℕ) → i < length xs → get_or xs i 0 ≡ get_or ys i 0) → xs ≡ ys
 same_numbers [] [] l h = refl
@@ -110,6 +110,10 @@ module _ (d : ℕ) (t t2 : List (List (List ℤ))) (s : List (List ℤ)) (chosen
   -- a number that stands there stands in no order twice
   pub none_twice : (k : ℕ) → length chosen < suc d → Contains chosen k → HasNoneFrom d t t2 s (chosen ++ k ∷ [])
   none_twice k l (i, p, e) = λ q b u m. order_distinct (suc d) q i (length chosen) m.order p l (begins_less chosen q k b i p ∙ get_or_default chosen i 0 k p ∙ e ∙ sym (begins_last chosen q k b))
+
+  -- nor does one at which the pair has another signature than the vertex that goes to it
+  pub none_signed : (ps qs : List (List ℤ)) (k : ℕ) → AreSigned d t t2 s ps qs → length chosen < suc d → get_or ps (length chosen) [] ≢ get_or qs k [] → HasNoneFrom d t t2 s (chosen ++ k ∷ [])
+  none_signed ps qs k h l differ = λ q b. h.none q (length chosen) l (λ e. differ (e ∙ ap (λ n. get_or qs n []) (begins_last chosen q k b)))
 
   -- where no number goes on
   pub none_from : length chosen < suc d → ((k : ℕ) → k < suc d → HasNoneFrom d t t2 s (chosen ++ k ∷ [])) → HasNoneFrom d t t2 s chosen

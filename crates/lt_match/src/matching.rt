@@ -1,6 +1,6 @@
 //! The first matrix that carries one triangulation onto another.
 
-ghost use Rattle.std.specs.Prelude.{◌≡◌, ◌<◌, ◌≤◌, ◌*◌, ◌++◌, ◌∷◌, suc, ℕ, ℤ, List, [], length, get_or, IsTrue, IfOk, IfSome, MatchOption, ◌↔◌};
+ghost use Rattle.std.specs.Prelude.{◌≡◌, ◌<◌, ◌≤◌, ◌*◌, ◌++◌, ◌∷◌, ◌≢◌, ◌⊎◌, false, suc, ℕ, ℤ, List, [], length, get_or, IsTrue, IfOk, IfSome, MatchOption, ◌↔◌};
 ghost use Rattle.std.specs.List.{Contains, All};
 ghost use Rattle.lt_model.specs.Flat.{rows};
 ghost use Rattle.lt_model.specs.Limits.{span_limit};
@@ -12,12 +12,12 @@ ghost use Rattle.lt_geometry.proofs.Rearranged.{IsDistinct};
 ghost use Rattle.lt_triang.specs.Bounds.{AreNear};
 ghost use Rattle.lt_triang.specs.Kept.{IsTriangulation, dimension_of, IsOfSomeForm};
 ghost use Rattle.lt_match.specs.Bases.{IsBasis};
-ghost use Rattle.lt_match.specs.Matches.{in_order, BeginsWith, HasNoMatch, IsMatch, IsFirstOrder, IsFirstMatch, ArePlaces, IsBeginning};
+ghost use Rattle.lt_match.specs.Matches.{in_order, BeginsWith, HasNoMatch, IsMatch, IsFirstOrder, IsFirstMatch, ArePlaces, AreSigned, IsBeginning};
 
 use crate::bases::{Basis, basis_of, matrix_taking};
 use crate::carrying::{all_go, comes_back};
 use arrayvec::ArrayVec;
-use lt_colour::signature;
+use lt_colour::{PairSignature, pair_signatures, signature};
 use lt_lattice::{Matrix, Point};
 use lt_model::Memory;
 use lt_triang::Triangulation;
@@ -97,14 +97,28 @@ fn with_last(chosen: &[usize], k: usize) -> ArrayVec<usize, 7>
     all
 }
 
-/// The match of the first order that begins with the numbers and has one, where orders are compared number by number. The orders are
-/// gone through in place: a list of each would take memory for every candidate.
+/// Whether vertex `k` of a member may come behind those chosen: it isn't among them, and the pair at the facet opposite to it has the
+/// signature of the pair opposite to the vertex that goes to it.
+fn may_follow(chosen: &[usize], k: usize, own: &[PairSignature], pairs: &[PairSignature]) -> bool
+    requires next { length chosen.now < length own.now }
+    requires vertex { k < length pairs.now }
+    ensures yes { IsTrue result → Contains chosen.now k → ⊥ }
+    ensures no { result ≡ false → Contains chosen.now k ⊎ (get_or own.now (length chosen.now) [] ≢ get_or pairs.now k []) }
+{
+    !stands_among(chosen, k) && own[chosen.len()] == pairs[k]
+}
+
+/// The match of the first order that begins with the numbers and has one, where orders are compared number by number. Orders that take a
+/// vertex to one whose pair has another signature are passed over. The orders are gone through in place: a list of each would take memory
+/// for every candidate.
 fn search(
     d: usize,
     basis: &Basis,
     from: &Triangulation,
     to: &Triangulation,
     s: &[Point],
+    own: &[PairSignature],
+    pairs: &[PairSignature],
     chosen: &[usize],
 ) -> Option<Matrix>
     requires origin { IsTriangulation d from.now }
@@ -112,6 +126,7 @@ fn search(
     requires count { length from.now ≡ length to.now }
     requires basis { IsBasis d (get_or from.now 0 []) basis.now.scales.items basis.now.terms.items }
     requires member { Contains to.now s.now }
+    requires signed { AreSigned d from.now to.now s.now own.now pairs.now }
     requires chosen { IsBeginning (suc d) chosen.now }
     ensures { MatchOption result ((p : List ℕ) → BeginsWith chosen.now p → HasNoMatch d from.now to.now s.now p) (λ u. (length u ≡ d * d) × IsFirstOrder d from.now to.now s.now chosen.now (rows d u)) }
 {
@@ -119,9 +134,9 @@ fn search(
         return attempt(d, basis, from, to, s, chosen);
     }
     for k in 0..d + 1 {
-        if !stands_among(chosen, k) {
+        if may_follow(chosen, k, own, pairs) {
             let longer = with_last(chosen, k);
-            match search(d, basis, from, to, s, longer.as_slice()) {
+            match search(d, basis, from, to, s, own, pairs, longer.as_slice()) {
                 Some(u) => return Some(u),
                 None => {}
             }
@@ -166,13 +181,27 @@ fn first_match(
 ) -> Option<Matrix>
     requires origin { IsTriangulation d from.now }
     requires target { IsTriangulation d to.now }
+    requires delaunay { IsOfSomeForm from.now }
+    requires delaunay_too { IsOfSomeForm to.now }
     requires count { length from.now ≡ length to.now }
     requires places { ArePlaces d from.now to.now places.now }
     ensures { MatchOption result ((n : ℕ) → n < length to.now → (q : List ℕ) → HasNoMatch d from.now to.now (get_or to.now n []) q) (λ u. (length u ≡ d * d) × IsFirstMatch d from.now to.now (rows d u)) }
 {
     let basis = basis_of(d, from.class(0).vertices());
+    let own = pair_signatures(from, 0);
     for n in places {
-        match search(d, &basis, from, to, to.class(*n).vertices(), &[]) {
+        let pairs = pair_signatures(to, *n);
+        let s = to.class(*n).vertices();
+        match search(
+            d,
+            &basis,
+            from,
+            to,
+            s,
+            own.as_slice(),
+            pairs.as_slice(),
+            &[],
+        ) {
             Some(u) => return Some(u),
             None => {}
         }

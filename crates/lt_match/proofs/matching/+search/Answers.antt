@@ -4,8 +4,8 @@ use Rattle.std.proofs.lemmas.List.{length-append}
 use Rattle.std.specs.List.{Contains}
 use Rattle.lt_model.specs.Flat.{rows}
 use Rattle.lt_match.specs.Matches.{IsBeginning, IsFirstOrder}
-use Rattle.lt_match.proofs.Beginnings.{HasNoneFrom, whole_order, beginning_more, none_twice, none_from, found_more, leaf}
-use Rattle.lt_match.proofs.matching.+search.Goals.{then-not-stands_among+in-None, else-not-stands_among}
+use Rattle.lt_match.proofs.Beginnings.{HasNoneFrom, whole_order, beginning_more, none_twice, none_signed, none_from, found_more, leaf}
+use Rattle.lt_match.proofs.matching.+search.Goals.{then-may_follow+in-None, else-may_follow}
 use Rattle.lt_match.proofs.matching.+search.Goals as goal
 
 full : (d n : ℕ) → d < n → n ≤ suc d → n ≡ suc d
@@ -21,13 +21,13 @@ pub search-requires : goal.search-requires
 search-requires t c =
     let chosen = c.args.chosen.now in
     let k = c.loop-k.k in
-    let new : Contains chosen k → ⊥ = λ m. false≢true (sym c.if-not-stands_among.true ∙ c.stands_among.ensures.1 m) in
+    let new : Contains chosen k → ⊥ = c.may_follow.ensures.yes c.if-may_follow.true in
     let is : c.as_slice.result.now ≡ chosen ++ k ∷ [] = c.as_slice.ensures.value ∙ c.with_last-longer.ensures in
     let more : IsBeginning (suc c.args.d) c.as_slice.result.now = rw is (beginning_more (suc c.args.d) chosen k c.requires.chosen (omega (arith, c.if-chosen-d.false)) (omega (arith, c.loop-k-test.true)) new) in
     let long : length c.as_slice.result.now ≡ length chosen + 1 = ap length is ∙ length-append chosen (k ∷ []) in
     let now : suc c.args.d - length chosen ≡ t = c.decreases in
     let falls : suc c.args.d - length c.as_slice.result.now < t = omega (arith, now, long, c.if-chosen-d.false) in
-    (falls, (c.requires.origin, (c.requires.target, (c.requires.count, (c.requires.basis, (c.requires.member, more))))))
+    (falls, (c.requires.origin, (c.requires.target, (c.requires.count, (c.requires.basis, (c.requires.member, (c.requires.signed, more)))))))
 
 pub returns-in-Some : goal.returns-in-Some
 returns-in-Some t c =
@@ -45,9 +45,12 @@ loop-k-preserved t c =
     let chosen = c.args.chosen.now in
     let k = c.loop-k.k in
     let here : HasNoneFrom d from to s (chosen ++ k ∷ []) =
-    elim c.if-not-stands_among.branch [
-      | then-not-stands_among+in-None w ↦ let is : w.as_slice.result.now ≡ chosen ++ k ∷ [] = w.as_slice.ensures.value ∙ w.with_last-longer.ensures in subst (HasNoneFrom d from to s) is w.in-None.ensures
-      | else-not-stands_among w ↦ none_twice d from to s chosen k (omega (arith, c.if-chosen-d.false)) (c.stands_among.ensures.0 w.if-not-stands_among.false)
+    elim c.if-may_follow.branch [
+      | then-may_follow+in-None w ↦ let is : w.as_slice.result.now ≡ chosen ++ k ∷ [] = w.as_slice.ensures.value ∙ w.with_last-longer.ensures in subst (HasNoneFrom d from to s) is w.in-None.ensures
+      | else-may_follow w ↦ elim (c.may_follow.ensures.no w.if-may_follow.false) [
+        | inl twice ↦ none_twice d from to s chosen k (omega (arith, c.if-chosen-d.false)) twice
+        | inr other ↦ none_signed d from to s chosen c.args.own.now c.args.pairs.now k c.requires.signed (omega (arith, c.if-chosen-d.false)) other
+      ]
     ]
     in
     λ j h. elim (cases_lt j k) [
