@@ -1,7 +1,9 @@
 //! Signatures of classes: numbers that no change of basis alters.
 #![tactic(auto)]
 
+mod fingerprints;
 mod pairs;
 mod signatures;
 
+pub use fingerprints::{fingerprint, fingerprints_are_invariant};
 pub use signatures::{signature, signatures_are_invariant};
