@@ -9,7 +9,7 @@ use Rattle.lt_model.specs.Order.{number_list_cmp}
 use Rattle.lt_model.specs.Vectors.{IsPrimitive}
 use Rattle.lt_model.specs.Simplices.{IsClassOf, IsExpression, translate}
 use Rattle.lt_model.specs.Facets.{without, number_at, IsNeighbour}
-use Rattle.lt_model.specs.Matrices.{apply, Carries}
+use Rattle.lt_model.specs.Matrices.{apply, Carries, AreEquivalent}
 use Rattle.lt_model.specs.Triangulations.{IsDelaunay}
 
 -- ys holds the members of xs in ascending order
@@ -48,8 +48,26 @@ pub record IsClassSignature (d : ℕ) (t : List (List (List ℤ))) (s : List (Li
   pub in_order : IsInOrder number_list_cmp pairs ascending
   pub is : sig ≡ flat ascending
 
+-- the signatures of the classes, in the order of classes
+pub record AreClassSignatures (d : ℕ) (t : List (List (List ℤ))) (signatures : List (List ℤ)) : Type 0 where
+  pub count : length signatures ≡ length t
+  pub each : (k : ℕ) → k < length t → IsClassSignature d t (get_or t k []) (get_or signatures k [])
+
+-- the signatures of the classes in ascending order, one after the other
+pub record IsFingerprint (d : ℕ) (t : List (List (List ℤ))) (f : List ℤ) : Type 0 where
+  pub classes : List (List ℤ)
+  pub signatures : AreClassSignatures d t classes
+  pub ascending : List (List ℤ)
+  pub in_order : IsInOrder number_list_cmp classes ascending
+  pub is : f ≡ flat ascending
+
 -- a matrix that carries one Delaunay triangulation onto another takes a member to one with the same signature
 abbrev pub SignaturesAreInvariant : Type 0
 SignaturesAreInvariant =
     (d : ℕ) (q q2 : List ℤ) (u : List (List ℤ)) (t t2 : List (List (List ℤ))) (s s2 : List (List ℤ)) (a b : List ℤ) → IsDelaunay d q t → IsDelaunay d q2 t2 → Carries d u t t2 → Contains t s → IsClassOf d (map (apply u) s) s2 →
     IsClassSignature d t s a → IsClassSignature d t2 s2 b → a ≡ b
+
+-- equivalent Delaunay triangulations have the same fingerprint
+abbrev pub FingerprintsAreInvariant : Type 0
+FingerprintsAreInvariant =
+    (d : ℕ) (q q2 : List ℤ) (t t2 : List (List (List ℤ))) (f f2 : List ℤ) → IsDelaunay d q t → IsDelaunay d q2 t2 → AreEquivalent d t t2 → IsFingerprint d t f → IsFingerprint d t2 f2 → f ≡ f2

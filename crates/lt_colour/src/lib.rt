@@ -1,8 +1,10 @@
 //! Signatures of classes: numbers that no change of basis alters.
 #![tactic(auto)]
 
+mod fingerprints;
 mod pairs;
 mod signatures;
 
+pub use fingerprints::{fingerprint, fingerprints_are_invariant};
 pub use pairs::PairSignature;
 pub use signatures::{pair_signatures, signature, signatures_are_invariant};

@@ -5,6 +5,8 @@
 #[cfg(test)]
 mod atlases;
 #[cfg(test)]
+mod colours;
+#[cfg(test)]
 mod cones;
 #[cfg(test)]
 mod flips;

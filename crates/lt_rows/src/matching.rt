@@ -60,7 +60,7 @@ pub fn image_by(
 }
 
 /// The principal triangulation, and the triangulation across its first facet.
-fn first_flip(rt: &impl Abort, alloc: Global, d: u8) -> (Triangulation, Triangulation)
+pub fn first_flip(rt: &impl Abort, alloc: Global, d: u8) -> (Triangulation, Triangulation)
     requires low { 2 ≤ d }
     requires high { d ≤ 6 }
     ensures delaunay { IsOfSomeForm result.0 }
