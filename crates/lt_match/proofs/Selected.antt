@@ -1,5 +1,5 @@
 -- Members with the signature of the first class of a triangulation: the others have no match.
-use Rattle.std.proofs.Common.{◌≡◌, ◌≢◌, suc, negsuc, ap, ◌<◌, ◌+◌, ◌⊎◌, ℕ, ℤ, arith, sym, ◌∙◌, subst, List, [], ◌∷◌, ◌++◌, length, get_or, inl, inr}
+use Rattle.std.proofs.Common.{◌≡◌, ◌≢◌, suc, ap, ◌<◌, ◌+◌, ◌⊎◌, ℕ, ℤ, arith, sym, ◌∙◌, subst, List, [], ◌∷◌, ◌++◌, length, get_or, inl, inr}
 use Rattle.std.specs.List.{Contains}
 use Rattle.std.proofs.lemmas.Bool.{cases_lt}
 use Rattle.std.proofs.lemmas.List.{get_or_append_left, get_or_push, get_or_default, length-append}
@@ -10,11 +10,9 @@ use Rattle.lt_geometry.proofs.Images.{IsCarried, carries_undone}
 use Rattle.lt_geometry.proofs.Motions.{moved, motion_of, back_shift, minus_and_plus, length_of_member}
 use Rattle.lt_geometry.proofs.Matrices.{IsUndone}
 use Rattle.lt_geometry.specs.Carrying.{IsCandidate}
-use Rattle.lt_model.proofs.Squares.{length-scale}
-use Rattle.lt_model.proofs.Vectors.{plus_assoc, plus_comm}
 use Rattle.lt_model.specs.Simplices.{IsClass}
 use Rattle.lt_model.specs.Principal.{IsOrder}
-use Rattle.lt_model.specs.Vectors.{plus, scale, zeros}
+use Rattle.lt_model.specs.Vectors.{plus}
 use Rattle.lt_triang.specs.Kept.{IsTriangulation, IsOfSomeForm, dimension_of}
 use Rattle.lt_colour.specs.Signatures.{IsClassSignature, ArePairSignatures}
 use Rattle.lt_colour.proofs.Signed.{pair_signature_carried}
