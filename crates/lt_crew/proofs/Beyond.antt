@@ -127,7 +127,7 @@ heavy_is_stuck a p t w x h = record { no_cross = tt; across = t; is_across = x; 
 
 -- ---- how a settled position ends
 
-narrow_form : (d : ℕ) (t : Classes) → IsNarrow d t → HasForm d t
+pub narrow_form : (d : ℕ) (t : Classes) → IsNarrow d t → HasForm d t
 narrow_form d t n = (n.delaunay.0, subst (λ (z : ℕ). IsDelaunay z n.delaunay.0 t) n.dimension n.delaunay.1)
 
 module _ (a : Atlas) (p : ℕ) (t : Classes) (b : Atlas) (x : LiesAcross a p t) (n : IsNarrow a.dimension t) where

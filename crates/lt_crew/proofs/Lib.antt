@@ -1,4 +1,5 @@
 pub mod Places
+pub mod Prints
 pub mod Beyond
 pub mod Steps
 pub mod Queued

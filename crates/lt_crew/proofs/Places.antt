@@ -18,7 +18,7 @@ module _ (a : Atlas) (low : 2 ≤ a.dimension) (kept : IsKept (IsAcross a.dimens
   laws : AreCrossings (IsAcross a.dimension) a.dimension
   laws = across_laws a.dimension low
 
-  form : (k : ℕ) → k < length a.entries → HasForm a.dimension (entry_at a.entries k).triangulation
+  pub form : (k : ℕ) → k < length a.entries → HasForm a.dimension (entry_at a.entries k).triangulation
   form k l = entry_form (IsAcross a.dimension) a.dimension laws a.entries a.marks parts k l
 
   pub entry_dimension : (k : ℕ) → k < length a.entries → dimension_of (entry_at a.entries k).triangulation ≡ a.dimension
