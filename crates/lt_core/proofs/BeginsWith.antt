@@ -11,7 +11,7 @@ use Rattle.lt_core.specs.declared.marks.Entry.{Entry}
 use Rattle.lt_core.specs.declared.marks.Event.{Event}
 use Rattle.lt_core.specs.declared.atlas.Atlas.TheInside.{Inside}
 use Rattle.lt_core.specs.Marks.{mark_of, marks_of, event_of, entry_of}
-use Rattle.lt_core.specs.Meaning.{value_of, KeepsAtlas}
+use Rattle.lt_core.specs.Meaning.{value_of, IsSoundInside}
 use Rattle.lt_core.specs.Beginnings.{fresh_events, first_entries, first_places, IsStartOf}
 use Rattle.lt_core.proofs.Undone.{none_left}
 use Rattle.lt_core.proofs.Begun.{begins}
@@ -28,7 +28,7 @@ as_many d es mss h =
     same_lists (map length mss) (map facet_count es) (omega arith)
     (λ k x b. get_or-map length mss k [] x (omega arith) ∙ h.each k (omega arith) ∙ sym (get_or-map facet_count es k model.no_entry x (omega arith)))
 
-module _ (i j : Inside) (ki : KeepsAtlas i) (kj : KeepsAtlas j) where
+module _ (i j : Inside) (ki : IsSoundInside i) (kj : IsSoundInside j) where
   pub is_beginning : (a s : model.Atlas) → value_of i ≡ a → value_of j ≡ s → IsStartOf (value_of i) (value_of j) ↔ (model.begin a ≡ s)
   is_beginning a s ha hs =
       subst (λ z. IsStartOf (value_of i) (value_of j) ↔ (model.begin z ≡ s)) ha

@@ -17,3 +17,4 @@ pub mod Undone
 pub mod Begun
 pub mod Standing
 pub mod BeginsWith
+pub mod Printed

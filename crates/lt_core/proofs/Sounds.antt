@@ -24,11 +24,11 @@ use Rattle.lt_core.specs.declared.atlas.Atlas.TheInside.{Inside}
 use Rattle.lt_model.specs.Flat.{flat}
 use Rattle.lt_core.specs.Marks.{mark_of, marks_of, event_of, entry_of, matrix_rows}
 use Rattle.lt_core.specs.Sound.{IsSound}
-use Rattle.lt_core.specs.Meaning.{value_of, KeepsAtlas}
+use Rattle.lt_core.specs.Meaning.{value_of, IsSoundInside}
 
 -- ---- the place and the mark at a position, as the code reads them
 
-module _ (i : Inside) (k : KeepsAtlas i) (p : ℕ) (x : ℕ × ℕ) (h : p < length (value_of i).queue) (e : x ≡ get_or i.queue.items p x) where
+module _ (i : Inside) (k : IsSoundInside i) (p : ℕ) (x : ℕ × ℕ) (h : p < length (value_of i).queue) (e : x ≡ get_or i.queue.items p x) where
   pub read_place : model.place_at (value_of i).queue p ≡ x
   read_place =
       let l : p < length i.queue.items = simp length-map at h in
@@ -111,9 +111,9 @@ sound_push a n x c c' p m s l lc =
     stuck_once (model.heavy n) = omega arith
 
 -- the fields after an event mean the atlas with that event
-pub value_push : (i : Inside) (marks : Vec (Vec Mark Global) Global) (log : Vec Event Global) (n s p : ℕ) (x : ℕ × ℕ) (m : model.Mark) (e : Event) → model.place_at (value_of i).queue p ≡ x → marks_of marks.items ≡ model.set_mark (marks_of i.marks.items) x m → log.items ≡ i.log.items ++ e ∷ [] → event_of e ≡ record { position = p; mark = m; fresh = false } → value_of (record { dimension = i.dimension; entries = i.entries; marks = marks; queue = i.queue; log = log; undecided = n; stuck = s }) ≡ model.push (value_of i) p m
+pub value_push : (i : Inside) (marks : Vec (Vec Mark Global) Global) (log : Vec Event Global) (n s p : ℕ) (x : ℕ × ℕ) (m : model.Mark) (e : Event) → model.place_at (value_of i).queue p ≡ x → marks_of marks.items ≡ model.set_mark (marks_of i.marks.items) x m → log.items ≡ i.log.items ++ e ∷ [] → event_of e ≡ record { position = p; mark = m; fresh = false } → value_of (record { dimension = i.dimension; entries = i.entries; marks = marks; prints = i.prints; queue = i.queue; log = log; undecided = n; stuck = s }) ≡ model.push (value_of i) p m
 value_push i marks log n s p x m e hx hm hl he =
-    same_atlas (value_of (record { dimension = i.dimension; entries = i.entries; marks = marks; queue = i.queue; log = log; undecided = n; stuck = s })) (model.push (value_of i) p m) refl refl
+    same_atlas (value_of (record { dimension = i.dimension; entries = i.entries; marks = marks; prints = i.prints; queue = i.queue; log = log; undecided = n; stuck = s })) (model.push (value_of i) p m) refl refl
     (hm ∙ ap (λ q. model.set_mark (marks_of i.marks.items) q m) (sym hx))
     refl
     (ap (map event_of) hl ∙ map-append event_of i.log.items (e ∷ []) ∙ ap (λ y. map event_of i.log.items ++ y ∷ []) he)
@@ -122,7 +122,7 @@ pub legal_inside : (i : Inside) (b : model.Atlas) (p : ℕ) (m : model.Mark) →
 legal_inside i b p m e l = subst (λ (z : model.Atlas). IsLegal (IsAcross z.dimension) z z.entries (record { position = p; mark = m; fresh = false })) (sym e) l
 
 -- the log has room for one more
-pub has_room : (i : Inside) → KeepsAtlas i → 1 ≤ i.undecided → vec_len i.log < vec_capacity i.log
+pub has_room : (i : Inside) → IsSoundInside i → 1 ≤ i.undecided → vec_len i.log < vec_capacity i.log
 has_room i k h =
     let r : length (map event_of i.log.items) + i.undecided ≤ vec_capacity i.log = k.room in
     let r' : length i.log.items + i.undecided ≤ vec_capacity i.log = simp length-map at r in
@@ -209,7 +209,7 @@ legal_grow_inside i b p t cone e o c =
     (legal_new (IsAcross b.dimension) b p (candidate b p t cone) o c refl)
 
 module _ (i after : Inside) (b : model.Atlas) (p : ℕ) (t : List (List (List ℤ))) (cone : Cone) (x : ℕ × ℕ) (row : Vec Mark Global) (u u' : List ℤ) (marks : Vec (Vec Mark Global) Global) (n k : ℕ) (hk : k ≡ vec_len i.entries)
-    (hb : value_of i ≡ b) (inv : KeepsAtlas i) (o : IsOpenAt b p) (c : IsCandidate (IsAcross b.dimension) b p (length b.entries) (candidate b p t cone))
+    (hb : value_of i ≡ b) (inv : IsSoundInside i) (o : IsOpenAt b p) (c : IsCandidate (IsAcross b.dimension) b p (length b.entries) (candidate b p t cone))
     (hx : x ≡ get_or i.queue.items p x) (hd : after.dimension ≡ i.dimension) (hu : u ≡ flat (identity i.dimension)) (hu' : u' ≡ flat (identity i.dimension)) (hn : n ≡ length (model.facets_of cone.rows))
     (he : after.entries.items ≡ i.entries.items ++ record { triangulation = t; cone = cone; origin = Some x } ∷ [])
     (hm : marks_of marks.items ≡ model.set_mark (marks_of i.marks.items) x (model.cross k (matrix_rows u)))
@@ -238,7 +238,7 @@ module _ (i after : Inside) (b : model.Atlas) (p : ℕ) (t : List (List (List �
   pub value_extended : value_of after ≡ model.grow b p (candidate b p t cone)
   value_extended = value_inside ∙ ap (λ (z : model.Atlas). model.grow z p (candidate z p t cone)) hb
 
-  pub keeps_extended : KeepsAtlas after
+  pub keeps_extended : IsSoundInside after
   keeps_extended =
       let lg : length (value_of i).log ≡ vec_len i.log = length-map i.log.items event_of ∙ sym i.log.ok.0 in
       let s = sound_grow (value_of i) i.undecided i.stuck (vec_capacity i.log) (vec_capacity after.log) p (candidate (value_of i) p t cone) inv (subst (λ (z : model.Atlas). length z.entries < 2 ^ 30) (sym hb) hw) (legal_grow_inside i b p t cone hb o c) (omega arith) in

@@ -1,5 +1,6 @@
 pub mod Marks
 pub mod Sound
+pub mod Prints
 pub mod Meaning
 pub mod Candidates
 pub mod Refusals

@@ -1,19 +1,21 @@
 //! The atlas and its recordings.
 
-ghost use Rattle.std.specs.Prelude.{◌≡◌, ◌≢◌, ◌↔◌, IsTrue, ◌<◌, ◌≤◌, ◌+◌, ◌^◌, ℕ, length, get_or, map, false, []};
+ghost use Rattle.std.specs.Prelude.{◌≡◌, ◌≢◌, ◌↔◌, IsTrue, ◌<◌, ◌≤◌, ◌+◌, ◌^◌, ℕ, length, get_or, map, false, [], IfSome, IfNone};
 ghost use Rattle.std.specs.Result.{OnOk, OnErr, IfOk, IfErr, MatchResult};
 ghost use Rattle.lt_model.specs.Atlases.{begin, open_mark, cross, entry_at, mark_at, place_at, push, grow, undecided, stuck, one_if_stuck};
 ghost use Rattle.lt_model.specs.Walls.{IsAcross};
 ghost use Rattle.lt_model.specs.Logs.{IsLegal, IsKept, IsCandidate, IsStuck};
 ghost use Rattle.lt_model.specs.RightAtlases.{IsOpenAt, AreRight, fresh_atlas};
+ghost use Rattle.lt_colour.specs.Signatures.{IsFingerprint};
 ghost use Rattle.lt_core.specs.Candidates.{candidate};
 ghost use Rattle.lt_core.specs.Refusals.{standing_at, IsWhy, IsHeavyMark, IsMissed};
 ghost use Rattle.lt_core.specs.Marks.{mark_of, marks_of, entry_of, matrix_rows};
 
 use crate::beginnings::{all_stand, fresh_count, places_before, same_entries, same_places};
-use crate::copying::{entries_copy, log_copy, marks_copy, queue_copy};
+use crate::copying::{entries_copy, log_copy, marks_copy, prints_copy, queue_copy};
 use crate::lists::{append_places, make_room, open_queue, opens_of, push_within, put};
 use crate::marks::{Entry, Event, Mark};
+use crate::prints::{print_of, prints_of};
 use crate::refusals::{Already, Back, Missed, Why};
 use lt_lattice::Matrix;
 use lt_lp::Cone;
@@ -27,6 +29,7 @@ pub struct Atlas {
     dimension: u8,
     entries: Vec<Entry>,
     marks: Vec<Vec<Mark>>,
+    prints: Vec<Vec<i128>>,
     queue: Vec<(u32, u32)>,
     log: Vec<Event>,
     undecided: usize,
@@ -60,6 +63,7 @@ impl Atlas {
         requires high { dimension ≤ 6 }
         ensures { IfOk result (λ a. a ≡ fresh_atlas dimension (map entry_of entries.items) (marks_of marks.items)) }
     {
+        let prints = prints_of(alloc, &entries)?;
         let queue = open_queue(alloc, &marks)?;
         let mut log = Vec::new(alloc);
         log.reserve(queue.len())?;
@@ -68,6 +72,7 @@ impl Atlas {
             dimension,
             entries,
             marks,
+            prints,
             queue,
             log,
             undecided,
@@ -84,6 +89,7 @@ impl Atlas {
             dimension: self.dimension,
             entries: entries_copy(alloc, &self.entries)?,
             marks: marks_copy(alloc, &self.marks)?,
+            prints: prints_copy(alloc, &self.prints)?,
             queue: queue_copy(alloc, &self.queue)?,
             log: log_copy(alloc, &self.log, self.undecided)?,
             undecided: self.undecided,
@@ -280,6 +286,10 @@ impl Atlas {
             Some(events) => events,
             None => return Err((triangulation, cone)),
         };
+        let print = match print_of(*self.prints.allocator(), &triangulation) {
+            Ok(print) => print,
+            Err(_) => return Err((triangulation, cone)),
+        };
         let row = match opens_of(*self.marks.allocator(), facets) {
             Ok(row) => row,
             Err(_) => return Err((triangulation, cone)),
@@ -287,6 +297,7 @@ impl Atlas {
         match make_room(
             &mut self.entries,
             &mut self.marks,
+            &mut self.prints,
             &mut self.queue,
             &mut self.log,
             facets,
@@ -315,6 +326,7 @@ impl Atlas {
             },
         );
         push_within(&mut self.marks, row);
+        push_within(&mut self.prints, print);
         append_places(&mut self.queue, number, facets as u32);
         push_within(
             &mut self.log,
@@ -336,6 +348,20 @@ impl Atlas {
         ensures { result ≡ length self.now.entries }
     {
         self.entries.len() as u32
+    }
+
+    /// The first entry, from the one with the number `from`, whose triangulation has this fingerprint.
+    pub fn likely(&self, print: &[i128], from: u32) -> Option<u32>
+        ensures found { IfSome result (λ k. (from ≤ k) × (k < length self.now.entries) × IsFingerprint self.now.dimension (entry_at self.now.entries k).triangulation print.now) }
+        ensures before { IfSome result (λ k. (i : ℕ) → from ≤ i → i < k → IsFingerprint self.now.dimension (entry_at self.now.entries i).triangulation print.now → ⊥) }
+        ensures none { IfNone result ((i : ℕ) → from ≤ i → i < length self.now.entries → IsFingerprint self.now.dimension (entry_at self.now.entries i).triangulation print.now → ⊥) }
+    {
+        for k in from..self.entries() {
+            if self.prints[k as usize].as_slice() == print {
+                return Some(k);
+            }
+        }
+        None
     }
 
     /// Records that the triangulation across a facet is too wide or too heavy.

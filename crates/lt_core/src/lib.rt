@@ -9,6 +9,7 @@ mod copying;
 mod first;
 mod lists;
 mod marks;
+mod prints;
 mod refusals;
 
 pub use atlas::Atlas;
