@@ -2,8 +2,9 @@
 
 ghost use Rattle.lt_triang.specs.Kept.{IsOfSomeForm};
 
-use crate::matching::first_flip;
+use crate::matching::{first_flip, principal_of};
 use lt_colour::fingerprint;
+use lt_core::Atlas;
 use lt_triang::Triangulation;
 use std::alloc::Global;
 use std::process::Abort;
@@ -31,4 +32,18 @@ fn the_plane_and_its_flip_have_one_fingerprint(rt: HostRuntime) {
     assert!(rt; own.as_slice() == six.as_slice());
     let other = fingerprint_of(&rt, rt.alloc(), &across);
     assert!(rt; other.as_slice() == six.as_slice());
+}
+
+/// The starting atlas finds its entry by its fingerprint, and no entry behind it.
+#[test]
+fn the_first_entry_is_likely(rt: HostRuntime) {
+    let t = principal_of(&rt, rt.alloc(), 2);
+    let print = fingerprint_of(&rt, rt.alloc(), &t);
+    match Atlas::start(rt.alloc(), 2) {
+        Ok(atlas) => {
+            assert!(rt; atlas.likely(print.as_slice(), 0) == Some(0));
+            assert!(rt; atlas.likely(print.as_slice(), 1).is_none());
+        }
+        Err(_) => assert!(rt; false),
+    }
 }
