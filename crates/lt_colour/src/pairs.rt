@@ -95,7 +95,6 @@ pub fn pair_signature(t: &Triangulation, class: usize, facet: usize) -> PairSign
     ensures { IsPairSignature (dimension_of t.now) t.now (get_or t.now class []) facet result }
 {
     let _dimension = t.dimension();
-    let vertex = t.outer_vertex(class, facet);
-    let expression = t.class(class).expression(&vertex);
+    let expression = &t.outer(class, facet).expression;
     signature_from(expression.scale, expression.coefficients.as_slice(), facet)
 }

@@ -1,5 +1,5 @@
 -- What is wrong with a cone.
-use Rattle.std.specs.Prelude.{◌≡◌, ◌⊎◌, ◌<◌, ◌≤◌, ◌+◌, ℕ, ℤ, List, [], length, get_or}
+use Rattle.std.specs.Prelude.{◌≡◌, ◌⊎◌, ◌<◌, ◌≤◌, ◌+◌, ◌^◌, ℕ, ℤ, List, [], length, get_or}
 use Rattle.lt_model.specs.Cones.{Row, Cone, IsRightVerdict, sum_of_walls}
 use Rattle.lt_model.specs.Limits.{weight, weight_limit}
 use Rattle.lt_lp.specs.Reduced.{IsReduced}
@@ -17,3 +17,8 @@ IsFault d ns c (Wrong row) =
     ((weight_limit ≤ weight d ns) × (row ≡ length ns + 1))
     ⊎ ((weight d ns < weight_limit) × (row < length ns) × ((k : ℕ) → k < row → IsRowOf d ns c.rows k) × (IsRowOf d ns c.rows row → ⊥))
     ⊎ ((weight d ns < weight_limit) × (row ≡ length ns) × ((k : ℕ) → k < row → IsRowOf d ns c.rows k) × ((length c.rows ≡ length ns) × IsReduced (sum_of_walls c.rows) c.form → ⊥))
+
+-- the place of a fault is small
+abbrev pub IsSmallFault : ConeFault → Type 0
+IsSmallFault Memory = Unit
+IsSmallFault (Wrong row) = row ≤ 2 ^ 29 + 1

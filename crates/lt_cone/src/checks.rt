@@ -6,7 +6,7 @@ ghost use Rattle.lt_model.specs.Cones.{IsRightCone, IsRightVerdict};
 ghost use Rattle.lt_model.specs.Limits.{weight, weight_limit};
 ghost use Rattle.lt_tableau.specs.Errors.{AreOfDimension};
 ghost use Rattle.lt_triang.specs.Kept.{dimension_of, IsOfSomeForm};
-ghost use Rattle.lt_cone.specs.Faults.{IsRowOf, IsFault};
+ghost use Rattle.lt_cone.specs.Faults.{IsRowOf, IsFault, IsSmallFault};
 
 use crate::error::ConeFault;
 use lt_lattice::Normal;
@@ -52,7 +52,10 @@ pub fn check_cone(alloc: Global, t: &Triangulation, cone: &Cone) -> Result<(), C
     requires { IsOfSomeForm t.now }
     ensures right { IfOk result (λ _. IsRightCone (dimension_of t.now) t.now cone.now) }
     ensures wrong { IfErr result (λ e. (ns : List (List ℤ)) → AreRegulators (dimension_of t.now) t.now ns → IsFault (dimension_of t.now) ns cone.now e) }
+    ensures small { IfErr result IsSmallFault }
 {
+    // It shows that the regulators are few.
+    let _dimension = t.dimension();
     let normals = match regulators(alloc, t) {
         Ok(normals) => normals,
         Err(_) => return Err(ConeFault::Memory),

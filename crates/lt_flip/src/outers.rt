@@ -45,9 +45,11 @@ pub fn outer_of(t: &Triangulation, class: usize, normal: &Normal) -> Option<Oute
     let _dimension = t.dimension();
     match first_facet(t, class, normal) {
         Some(facet) => {
-            let vertex = t.outer_vertex(class, facet);
-            let expression = t.class(class).expression(&vertex);
-            Some(Outer { vertex, expression })
+            let outer = t.outer(class, facet);
+            Some(Outer {
+                vertex: outer.vertex.copy(),
+                expression: outer.expression.copy(),
+            })
         }
         None => None,
     }

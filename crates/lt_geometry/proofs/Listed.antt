@@ -61,7 +61,7 @@ less a f = record { all = a.all; sound = a.sound; complete = λ s y. a.complete 
 nothing : {X : Type 0} → (Z Y : X → Type 0) → ((s : X) → Y s → ⊥) → Listing Z Y
 nothing Z Y h = record { all = []; sound = λ s c. Contains-none s c; complete = λ s y. absurd (h s y) }
 
-gather : {A X : Type 0} → (Z : X → Type 0) (Y : A → X → Type 0) (r : List A) → ((a : A) → Contains r a → Listing Z (Y a)) → Listing Z (λ s. (a : A) × Contains r a × Y a s)
+pub gather : {A X : Type 0} → (Z : X → Type 0) (Y : A → X → Type 0) (r : List A) → ((a : A) → Contains r a → Listing Z (Y a)) → Listing Z (λ s. (a : A) × Contains r a × Y a s)
 gather Z Y [] f = nothing Z (λ s. (a : _) × Contains [] a × Y a s) (λ s y. Contains-none (y.0) (y.1))
 gather {A} {X} Z Y (x ∷ r) f = less (both (f x (Contains-head x r)) (gather Z Y r (λ a h. f a (Contains-tail x r a h)))) split
   where

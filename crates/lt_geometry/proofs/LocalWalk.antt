@@ -130,11 +130,11 @@ length_sum : (d : ℕ) (s0 : List (List ℤ)) → AllOfDimension d s0 → 0 < le
 length_sum d s0 all some = length-combine d (ones (length s0)) s0 all (length-ones (length s0)) some
 
 -- points with the excess 0 over a strictly empty simplex are vertices
-touched : (d : ℕ) (q : List ℤ) (vs us : List (List ℤ)) → IsStrictlyEmpty d q vs → AllOfDimension d us → AllByRecursion (λ u. IsOn q vs u) us → AllByRecursion (λ u. Contains vs u) us
+pub touched : (d : ℕ) (q : List ℤ) (vs us : List (List ℤ)) → IsStrictlyEmpty d q vs → AllOfDimension d us → AllByRecursion (λ u. IsOn q vs u) us → AllByRecursion (λ u. Contains vs u) us
 touched d q vs [] e all h = tt
 touched d q vs (u ∷ us) e all h = (e.touches u h.0.c h.0.b all.0 h.0.expression h.0.zero, touched d q vs us e all.1 h.1)
 
-fuel_for : (top h : ℤ) → (n : ℕ) × (top ≤ℤ (h +ℤ pos n))
+pub fuel_for : (top h : ℤ) → (n : ℕ) × (top ≤ℤ (h +ℤ pos n))
 fuel_for top h = (nat_abs top + nat_abs h, enough top h)
   where
     enough : (top h : ℤ) → top ≤ℤ (h +ℤ pos (nat_abs top + nat_abs h))

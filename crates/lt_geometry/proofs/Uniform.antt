@@ -94,7 +94,7 @@ length-padded : (vs : List (List ℤ)) → length (map (λ v. let w : List ℤ =
 length-padded [] = refl
 length-padded (v ∷ vs) = ap suc (length-padded vs)
 
-length-identity : (d : ℕ) → length (identity d) ≡ d
+pub length-identity : (d : ℕ) → length (identity d) ≡ d
 length-identity zero = refl
 length-identity (suc d) = ap suc (length-padded (identity d) ∙ length-identity d)
 

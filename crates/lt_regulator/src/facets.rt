@@ -27,9 +27,13 @@ fn outer_excess(t: &Triangulation, class: usize, facet: usize) -> ArrayVec<i128,
 {
     let dimension = usize::from(t.dimension());
     let simplex = t.class(class);
-    let vertex = t.outer_vertex(class, facet);
-    let expression = simplex.expression(&vertex);
-    excess_of(dimension, simplex.vertices(), &vertex, &expression)
+    let outer = t.outer(class, facet);
+    excess_of(
+        dimension,
+        simplex.vertices(),
+        &outer.vertex,
+        &outer.expression,
+    )
 }
 
 /// The regulator of the class at place `class` and its neighbour at facet `facet`: `d (d + 1) / 2` numbers in the order of a

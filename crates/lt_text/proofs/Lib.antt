@@ -4,3 +4,4 @@ pub mod Lists
 pub mod Loops
 pub mod Spelt
 pub mod Squares
+pub mod AsSpelt

@@ -1,3 +1,4 @@
 pub mod Texts
 pub mod Gathered
 pub mod Example
+pub mod Values

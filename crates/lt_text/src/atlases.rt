@@ -6,6 +6,7 @@ ghost use Rattle.lt_io.specs.Bytes.{Wrote};
 ghost use Rattle.lt_text.specs.Example.{ExampleIsSpelt};
 ghost use Rattle.lt_text.specs.Gathered.{Gathered};
 ghost use Rattle.lt_text.specs.Texts.{head_text, entries_text, atlas_text};
+ghost use Rattle.lt_text.specs.Values.{AtlasesAreSpelt};
 
 use crate::entries::gather_entry;
 use crate::gathering::{gather_count, gather_line};
@@ -59,4 +60,9 @@ pub fn write_atlas<K: Sink>(atlas: &Atlas, out: &mut K) -> Result<(), Failed>
 /// A law, with nothing to run: how an atlas of dimension 2 is spelt.
 pub fn example_is_spelt()
     ensures { ExampleIsSpelt }
+{}
+
+/// A law, with nothing to run: the text of an atlas is that of what it spells, which the grammar is about.
+pub fn atlases_are_spelt()
+    ensures { AtlasesAreSpelt }
 {}

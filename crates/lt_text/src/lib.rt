@@ -9,5 +9,5 @@ mod marks;
 mod rows;
 mod starts;
 
-pub use atlases::{example_is_spelt, write_atlas};
-pub use classes::write_triangulation;
+pub use atlases::{atlases_are_spelt, example_is_spelt, write_atlas};
+pub use classes::{coordinates_of, write_triangulation};

@@ -40,21 +40,17 @@ expression_of d (v ∷ vs) w den nums k lw h =
         end : (a x : ℤ) → a *ℤ pos 0 +ℤ x ≡ x
         end a x = omega (arith, ints)
 
-pub beyond_from : (d : ℕ) (s : List (List ℤ)) (i : ℕ) (w : List ℤ) (den : ℤ) (nums : List ℤ) → IsClass d s → length w ≡ d → IsSolution (drop 1 s) w den nums → number_at i (numbers_of den nums) <ℤ pos 0 → IsBeyond s i w
-beyond_from d s i w den nums k lw h n = record { scale = den; coefficients = numbers_of den nums; expression = expression_of d s w den nums k lw h; negative = n }
-
 weighted : (s : List (List ℤ)) (w : List ℤ) (c : ℤ) (b : List ℤ) → IsExpression s w c b → IsWeighted s (pos 1) w c b
 weighted s w c b e = record { positive = e.positive; one_each = e.one_each; point = e.point; sum = e.sum ∙ (one c) }
   where
     one : (c : ℤ) → c ≡ c *ℤ pos 1
     one c = omega (arith, ints)
 
-pub negative_from : (d : ℕ) (s : List (List ℤ)) (i : ℕ) (w : List ℤ) (den : ℤ) (nums : List ℤ) → IsClass d s → length w ≡ d → IsSolution (drop 1 s) w den nums → IsBeyond s i w → number_at i (numbers_of den nums) <ℤ pos 0
-negative_from d s i w den nums k lw h n =
-    let e : IsExpression s w den (numbers_of den nums) = expression_of d s w den nums k lw h in
-    let same : scale n.scale (numbers_of den nums) ≡ scale den n.coefficients = one_expression d s (pos 1) w (numbers_of den nums) n.coefficients den n.scale k.simplex (weighted s w den (numbers_of den nums) e) (weighted s w n.scale n.coefficients n.expression) in
-    let at : n.scale *ℤ number_at i (numbers_of den nums) ≡ den *ℤ number_at i n.coefficients = sym (number_at-scale i n.scale (numbers_of den nums)) ∙ ap (number_at i) same ∙ number_at-scale i den n.coefficients in
-    negative n.scale den (number_at i (numbers_of den nums)) (number_at i n.coefficients) n.expression.positive h.positive n.negative at
+pub negative_from : (d : ℕ) (s : List (List ℤ)) (i : ℕ) (w : List ℤ) (c : ℤ) (b : List ℤ) → IsClass d s → IsExpression s w c b → IsBeyond s i w → number_at i b <ℤ pos 0
+negative_from d s i w c b k e n =
+    let same : scale n.scale b ≡ scale c n.coefficients = one_expression d s (pos 1) w b n.coefficients c n.scale k.simplex (weighted s w c b e) (weighted s w n.scale n.coefficients n.expression) in
+    let at : n.scale *ℤ number_at i b ≡ c *ℤ number_at i n.coefficients = sym (number_at-scale i n.scale b) ∙ ap (number_at i) same ∙ number_at-scale i c n.coefficients in
+    negative n.scale c (number_at i b) (number_at i n.coefficients) n.expression.positive e.positive n.negative at
   where
     negative : (c e a b : ℤ) → pos 0 <ℤ c → pos 0 <ℤ e → b <ℤ pos 0 → c *ℤ a ≡ e *ℤ b → a <ℤ pos 0
     negative c e a b pc pe nb eq =

@@ -1,12 +1,11 @@
 -- The expression over a class that a solution gives: in lowest terms, and how large its numbers are.
-use Rattle.std.proofs.Common.{◌≡◌, ℕ, suc, ℤ, pos, ◌-ℤ◌, ◌<◌, ◌≤◌, ◌+◌, ◌*◌, ◌^◌, refl, ap, arith, sym, ◌∙◌, subst, List, [], ◌∷◌, length, get_or, nat_abs}
+use Rattle.std.proofs.Common.{◌≡◌, ℕ, suc, ℤ, ◌-ℤ◌, ◌<◌, ◌≤◌, ◌+◌, ◌*◌, ◌^◌, arith, sym, subst, List, [], ◌∷◌, length, get_or, nat_abs}
 use Rattle.std.proofs.lemmas.Int.{ints}
 use Rattle.std.specs.List.{All, Contains}
 use Rattle.std.proofs.lemmas.List.Elements.{All-cons, All-head, All-tail, Contains-get_or}
 use Rattle.lt_model.specs.Cones.{AreBelow}
-use Rattle.lt_model.specs.Vectors.{plus, minus, scale, total, IsPrimitive}
-use Rattle.lt_model.specs.Simplices.{AllOfDimension, IsClass, translate}
-use Rattle.lt_model.specs.Facets.{without, IsNeighbour}
+use Rattle.lt_model.specs.Vectors.{plus, total, IsPrimitive}
+use Rattle.lt_model.specs.Simplices.{AllOfDimension, IsClass}
 use Rattle.lt_model.specs.Limits.{span_limit}
 use Rattle.lt_model.proofs.Translates.{get-translate}
 use Rattle.lt_lattice.specs.Ranges.{IsWithin}

@@ -13,3 +13,7 @@ pub mod Made
 pub mod Distinct
 pub mod Expressed
 pub mod SomeForm
+pub mod Coded
+pub mod Indices
+pub mod Rowed
+pub mod Itself

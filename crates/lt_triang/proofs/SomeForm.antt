@@ -1,5 +1,5 @@
 -- The dimension of a Delaunay triangulation is that of its first member.
-use Rattle.std.proofs.Common.{◌≡◌, ℕ, ℤ, List, [], length, get_or, arith, subst}
+use Rattle.std.proofs.Common.{◌≡◌, ℕ, ℤ, List, [], get_or, arith, subst}
 use Rattle.std.proofs.lemmas.List.Elements.{Contains-get_or}
 use Rattle.lt_model.specs.Simplices.{IsClass}
 use Rattle.lt_model.specs.Triangulations.{IsDelaunay}

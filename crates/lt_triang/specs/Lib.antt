@@ -2,3 +2,5 @@ pub mod Bounds
 pub mod Flat
 pub mod Across
 pub mod Kept
+pub mod Codes
+pub mod Indexed

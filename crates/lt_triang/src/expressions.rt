@@ -25,6 +25,22 @@ pub struct Expression {
     pub coefficients: ArrayVec<i128, 7>,
 }
 
+impl Expression {
+    /// The same expression.
+    pub fn copy(&self) -> Expression
+        ensures { result ≡ self.now }
+    {
+        let mut coefficients: ArrayVec<i128, 7> = ArrayVec::new();
+        for number in self.coefficients.as_slice() {
+            coefficients.push(*number);
+        }
+        Expression {
+            scale: self.scale,
+            coefficients,
+        }
+    }
+}
+
 impl Class {
     /// The expression of a point in lowest terms. The coordinates of the point are at most twice the span limit in absolute value.
     pub fn expression(&self, x: &Point) -> Expression

@@ -2,16 +2,20 @@
 #![tactic(auto)]
 
 mod classes;
+mod codes;
 mod dependencies;
+mod errors;
 mod expressions;
+mod indexes;
 mod neighbours;
-mod sides;
+mod rows;
 mod spans;
 mod triangulations;
 mod vertices;
 
 pub use classes::{Class, Flat};
+pub use errors::TriangError;
 pub use expressions::Expression;
-pub use neighbours::Neighbour;
+pub use neighbours::{Neighbour, Outer};
 pub use spans::{are_near, span_limit, span_of};
-pub use triangulations::{TriangError, Triangulation};
+pub use triangulations::Triangulation;

@@ -1,18 +1,18 @@
-//! The first member of a list of classes that lies across a facet.
+//! Whether a class lies across a facet of another one.
 
-ghost use Rattle.std.specs.Prelude.{◌≡◌, ◌<◌, ◌≤◌, ◌^◌, suc, ℕ, [], length, get_or, IsTrue, MatchOption, ◌↔◌};
-ghost use Rattle.std.specs.List.{All, Contains};
+ghost use Rattle.std.specs.Prelude.{◌≡◌, ◌<◌, ◌≤◌, ◌^◌, suc, ℕ, [], length, get_or, IsTrue, IfSome, MatchOption, ◌↔◌};
+ghost use Rattle.std.specs.List.{All};
 ghost use Rattle.lt_model.specs.Limits.{span_limit};
 ghost use Rattle.lt_model.specs.Vectors.{plus, minus};
 ghost use Rattle.lt_model.specs.Facets.{without};
 ghost use Rattle.lt_model.specs.Simplices.{IsClass, AllOfDimension, translate};
 ghost use Rattle.lt_lattice.specs.Ranges.{IsWithin};
 ghost use Rattle.lt_triang.specs.Bounds.{AreWithin, AreNear};
-ghost use Rattle.lt_triang.specs.Across.{HasFacet, IsFacing, IsNotFacing, IsOpen, IsFirstVertex, IsFirstAcross};
-ghost use Rattle.lt_triang.specs.Kept.{AreClasses};
+ghost use Rattle.lt_triang.specs.Across.{HasFacet, IsFacing, IsNotFacing};
+ghost use Rattle.lt_triang.specs.Indexed.{IsOuterIn};
 
 use crate::classes::Class;
-use crate::sides::is_beyond;
+use crate::expressions::Expression;
 use lt_lattice::Point;
 
 /// Where a member lies across a facet: the member's place, the shift that moves it there, and the place of its vertex outside.
@@ -26,8 +26,63 @@ pub struct Neighbour {
     pub vertex: usize,
 }
 
+impl Neighbour {
+    /// The same neighbour.
+    pub fn copy(&self) -> Neighbour
+        ensures { result ≡ self.now }
+    {
+        Neighbour {
+            class: self.class,
+            shift: self.shift.copy(),
+            vertex: self.vertex,
+        }
+    }
+}
+
+/// The vertex of a neighbour that lies outside a class.
+#[derive(Drop)]
+pub struct Outer {
+    /// The vertex.
+    pub vertex: Point,
+    /// Its expression over the vertices of the class.
+    pub expression: Expression,
+}
+
+impl Outer {
+    /// The same vertex and expression.
+    pub fn copy(&self) -> Outer
+        ensures { result ≡ self.now }
+    {
+        Outer {
+            vertex: self.vertex.copy(),
+            expression: self.expression.copy(),
+        }
+    }
+}
+
+/// A neighbour with its vertex outside.
+#[derive(Drop)]
+pub struct Across {
+    /// The neighbour.
+    pub neighbour: Neighbour,
+    /// Its vertex outside.
+    pub outer: Outer,
+}
+
+impl Across {
+    /// The same neighbour and vertex.
+    pub fn copy(&self) -> Across
+        ensures { result ≡ self.now }
+    {
+        Across {
+            neighbour: self.neighbour.copy(),
+            outer: self.outer.copy(),
+        }
+    }
+}
+
 /// The vertex at place `k` of facet `i`.
-fn facet_vertex(s: &[Point], i: usize, k: usize) -> &Point
+pub fn facet_vertex(s: &[Point], i: usize, k: usize) -> &Point
     requires high { length s.now ≤ 7 }
     requires place { suc k < length s.now }
     ensures { result.now ≡ get_or (without i s.now) k [] }
@@ -87,7 +142,7 @@ fn shift_of(d: usize, s: &[Point], i: usize, next: &[Point], j: usize) -> Point
 }
 
 /// The vertex moved by the shift.
-pub fn vertex_moved(next: &[Point], j: usize, by: &Point) -> Point
+fn vertex_moved(next: &[Point], j: usize, by: &Point) -> Point
     requires place { j < length next.now }
     requires dimension { AllOfDimension (length by.now) next.now }
     requires within { All (IsWithin (2 ^ 20)) (plus (get_or next.now j []) by.now) }
@@ -99,8 +154,8 @@ pub fn vertex_moved(next: &[Point], j: usize, by: &Point) -> Point
     }
 }
 
-/// The shift by which the class `next` lies across facet `i` of the class `s`, with its vertex `j` outside.
-fn facing(d: usize, s: &[Point], i: usize, next: &[Point], j: usize) -> Option<Point>
+/// The shift by which the class `next` lies across facet `i` of the class `s`, with its vertex `j` outside, and that vertex.
+pub fn facing(d: usize, s: &Class, i: usize, next: &[Point], j: usize) -> Option<(Point, Outer)>
     requires low { 2 ≤ d }
     requires high { d ≤ 6 }
     requires class { IsClass d s.now }
@@ -109,37 +164,29 @@ fn facing(d: usize, s: &[Point], i: usize, next: &[Point], j: usize) -> Option<P
     requires place_too { j < suc d }
     requires near { AreNear (span_limit d) s.now }
     requires near_too { AreNear (span_limit d) next.now }
-    ensures { MatchOption result (IsNotFacing d s.now i next.now j) (λ p. IsFacing d s.now i next.now p j) }
+    ensures facing { MatchOption result (IsNotFacing d s.now i next.now j) (λ r. IsFacing d s.now i next.now r.0 j) }
+    ensures outer { IfSome result (λ r. IsOuterIn s.now next.now r.0 j r.1.vertex r.1.expression.scale r.1.expression.coefficients.items) }
 {
-    if !are_parallel(d, s, i, next, j) {
+    let points = s.vertices();
+    if !are_parallel(d, points, i, next, j) {
         return None;
     }
-    let shift = shift_of(d, s, i, next, j);
-    let outer = vertex_moved(next, j, &shift);
-    if is_beyond(d, s, i, &outer) {
-        Some(shift)
+    let shift = shift_of(d, points, i, next, j);
+    let vertex = vertex_moved(next, j, &shift);
+    let expression = s.expression(&vertex);
+    if expression.coefficients[i] < 0 {
+        Some((shift, Outer { vertex, expression }))
     } else {
         None
     }
 }
 
-/// The least vertex with which the class `next` lies across the facet, and the shift.
-fn first_vertex(d: usize, s: &[Point], i: usize, next: &[Point]) -> Option<(usize, Point)>
-    requires low { 2 ≤ d }
-    requires high { d ≤ 6 }
-    requires class { IsClass d s.now }
-    requires class_too { IsClass d next.now }
-    requires place { i < suc d }
-    requires near { AreNear (span_limit d) s.now }
-    requires near_too { AreNear (span_limit d) next.now }
-    ensures { MatchOption result ((j : ℕ) → j < suc d → IsNotFacing d s.now i next.now j) (λ r. IsFirstVertex d s.now i next.now r.1 r.0) }
+/// The member at a place.
+pub fn class_at(classes: &[Class], n: usize) -> &Class
+    requires { n < length classes.now }
+    ensures { result.now ≡ get_or classes.now n [] }
 {
-    for j in 0..d + 1 {
-        if let Some(shift) = facing(d, s, i, next, j) {
-            return Some((j, shift));
-        }
-    }
-    None
+    &classes[n]
 }
 
 /// The vertices of the member at a place.
@@ -148,23 +195,4 @@ pub fn member(classes: &[Class], n: usize) -> &[Point]
     ensures { result.now ≡ get_or classes.now n [] }
 {
     classes[n].vertices()
-}
-
-/// The first member across facet `i` of the class `s`, in the order of members and vertices.
-pub fn first_across(d: usize, classes: &[Class], s: &[Point], i: usize) -> Option<Neighbour>
-    requires members { AreClasses d classes.now }
-    requires own { Contains classes.now s.now }
-    requires place { i < suc d }
-    ensures { MatchOption result (IsOpen d classes.now s.now i) (λ r. IsFirstAcross d classes.now s.now i r.class r.shift r.vertex) }
-{
-    for n in 0..classes.len() {
-        if let Some((vertex, shift)) = first_vertex(d, s, i, member(classes, n)) {
-            return Some(Neighbour {
-                class: n,
-                shift,
-                vertex,
-            });
-        }
-    }
-    None
 }

@@ -1,21 +1,27 @@
 //! Triangulations: classes that are closed under facets.
 
-ghost use Rattle.std.specs.Prelude.{◌≡◌, ◌<◌, ◌-◌, ◌*◌, suc, ℕ, ℤ, pos, List, [], length, get_or, IfOk, MatchOption, ◌↔◌};
+ghost use Rattle.std.specs.Prelude.{◌≡◌, ◌<◌, ◌-◌, ◌*◌, ◌^◌, ◌∷◌, suc, ℕ, ℤ, pos, List, [], length, get_or, IfOk, ◌↔◌};
 ghost use Rattle.std.specs.List.{All, Contains};
 ghost use Rattle.std.specs.List.Sorted.{IsStrictlySortedBy};
 ghost use Rattle.lt_model.specs.Limits.{span, span_limit};
 ghost use Rattle.lt_model.specs.Order.{simplex_cmp};
-ghost use Rattle.lt_model.specs.Simplices.{IsClass};
-ghost use Rattle.lt_triang.specs.Across.{HasAcross, IsFirstAcross, IsFirstOpenOf, IsFirstOpen, IsOpenAnswer, IsOuterVertex};
+ghost use Rattle.lt_model.specs.Simplices.{IsClass, IsExpression};
+ghost use Rattle.lt_model.specs.Cones.{AreBelow};
+ghost use Rattle.lt_model.specs.Vectors.{IsPrimitive};
+ghost use Rattle.lt_triang.specs.Indexed.{IsKept};
+ghost use Rattle.lt_triang.specs.Across.{IsFirstAcross, IsOpenAnswer, IsOuterVertex};
 ghost use Rattle.lt_triang.specs.Kept.{IsTriangulation, AreClasses, dimension_of};
 ghost use Rattle.lt_lattice.specs.Ranges.{IsWithin};
-ghost use Rattle.lt_triang.specs.declared.triangulations.TriangError.TheVariants.{OpenFacet};
+ghost use Rattle.lt_triang.specs.declared.errors.TriangError.TheVariants.{OpenFacet};
 
 use crate::classes::Class;
-use crate::neighbours::{Neighbour, first_across, member, vertex_moved};
+use crate::errors::TriangError;
+use crate::neighbours::{Across, Neighbour, Outer, member};
+use crate::rows::{Row, rows_copy, rows_of};
 use crate::spans::span_of;
 use lt_lattice::Point;
 use lt_model::Memory;
+use std::alloc::Global;
 use std::marker::Model;
 
 /// The classes of a triangulation in ascending order: at least one, each with a span within the limit, and each facet of each lies in
@@ -23,60 +29,19 @@ use std::marker::Model;
 #[derive(Drop)]
 pub struct Triangulation {
     classes: Vec<Class>,
+    rows: Vec<Row>,
 }
 
 impl Model for Triangulation {
-    ghost use Rattle.std.specs.Prelude.{List, ℤ, ℕ};
+    ghost use Rattle.std.specs.Prelude.{List, ℤ, ℕ, length};
     ghost use Rattle.lt_triang.specs.Kept.{IsTriangulation};
+    ghost use Rattle.lt_triang.specs.Indexed.{AreRows};
 
     ghost Value = { List (List (List ℤ)) };
 
     ghost view = { λ t. t.classes.items };
 
-    ghost invariant = { λ t. (d : ℕ) × IsTriangulation d t.classes.items };
-}
-
-/// Why no triangulation is made of classes.
-#[derive(Debug, Drop)]
-pub enum TriangError {
-    /// The facet of the class, the first such after sorting, lies in no member on the other side.
-    OpenFacet {
-        /// The place of the class after sorting, each class once.
-        class: usize,
-        /// The place of the vertex opposite to the facet.
-        facet: usize,
-    },
-    /// Memory was refused.
-    Memory,
-}
-
-/// The first open facet of the member.
-fn first_open_of(d: usize, classes: &[Class], s: &[Point]) -> Option<usize>
-    requires members { AreClasses d classes.now }
-    requires own { Contains classes.now s.now }
-    ensures { MatchOption result ((i : ℕ) → i < suc d → HasAcross d classes.now s.now i) (λ i. IsFirstOpenOf d classes.now s.now i) }
-{
-    for i in 0..d + 1 {
-        match first_across(d, classes, s, i) {
-            Some(_found) => {}
-            None => return Some(i),
-        }
-    }
-    None
-}
-
-/// The first open facet, in the order of members and facets.
-fn first_open(d: usize, classes: &[Class]) -> Option<(usize, usize)>
-    requires { AreClasses d classes.now }
-    ensures { MatchOption result ((n i : ℕ) → n < length classes.now → i < suc d → HasAcross d classes.now (get_or classes.now n []) i) (λ r. IsFirstOpen d classes.now r.0 r.1) }
-{
-    for n in 0..classes.len() {
-        match first_open_of(d, classes, member(classes, n)) {
-            Some(facet) => return Some((n, facet)),
-            None => {}
-        }
-    }
-    None
+    ghost invariant = { λ t. (d : ℕ) × IsTriangulation d t.classes.items × AreRows d t.classes.items (length t.classes.items) t.rows.items };
 }
 
 /// The classes in ascending order, each once.
@@ -96,6 +61,20 @@ fn dimension_of(classes: &[Class]) -> usize
     ensures { IsClass result (get_or classes.now 0 []) }
 {
     classes[0].dimension() as usize
+}
+
+/// Copies of the classes.
+fn classes_copy(alloc: Global, given: &[Class]) -> Result<Vec<Class>, Memory>
+    ensures { IfOk result (λ classes. classes.items ≡ given.now) }
+{
+    let mut classes = Vec::new(alloc);
+    for class in given {
+        match classes.push(class.copy()) {
+            Ok(()) => {}
+            Err(_) => return Err(Memory),
+        }
+    }
+    Ok(classes)
 }
 
 /// The greatest span of a class.
@@ -121,10 +100,12 @@ impl Triangulation {
     {
         let d = dimension_of(classes.as_slice());
         let distinct = sorted_distinct(classes);
-        match first_open(d, distinct.as_slice()) {
-            Some((class, facet)) => Err(TriangError::OpenFacet { class, facet }),
-            None => Ok(Triangulation { classes: distinct }),
-        }
+        let alloc = *distinct.allocator();
+        let rows = rows_of(alloc, d, distinct.as_slice())?;
+        Ok(Triangulation {
+            classes: distinct,
+            rows,
+        })
     }
 
     /// The number of coordinates of a vertex.
@@ -157,18 +138,38 @@ impl Triangulation {
         i64::from(widest_of(d, self.classes.as_slice()))
     }
 
+    /// The neighbour at facet `facet` of the class at place `class`, as it is kept.
+    fn kept(&self, class: usize, facet: usize) -> &Across
+        requires class { class < length self.now }
+        requires facet { facet < length (get_or self.now class []) }
+        ensures { IsKept (length (get_or self.now class []) - 1) self.now (get_or self.now class []) facet result.now }
+    {
+        self.rows[class].at(facet)
+    }
+
     /// The first member, in the order of classes and vertices, that lies across facet `facet` of the class at place `class`.
     pub fn neighbour(&self, class: usize, facet: usize) -> Neighbour
         requires class { class < length self.now }
         requires facet { facet < length (get_or self.now class []) }
         ensures { IsFirstAcross (length (get_or self.now class []) - 1) self.now (get_or self.now class []) facet result.class result.shift result.vertex }
     {
-        let d = self.dimension() as usize;
-        let classes = self.classes.as_slice();
-        match first_across(d, classes, member(classes, class), facet) {
-            Some(found) => found,
-            None => unreachable!(),
-        }
+        self.kept(class, facet).neighbour.copy()
+    }
+
+    /// The vertex of the neighbour at facet `facet` of the class at place `class` that lies outside the class, and its expression over
+    /// the class in lowest terms.
+    pub fn outer(&self, class: usize, facet: usize) -> &Outer
+        requires class { class < length self.now }
+        requires facet { facet < length (get_or self.now class []) }
+        ensures vertex { IsOuterVertex (dimension_of self.now) self.now (get_or self.now class []) facet result.now.vertex }
+        ensures dimension { length result.now.vertex ≡ dimension_of self.now }
+        ensures near { All (IsWithin (2 * span_limit (dimension_of self.now))) result.now.vertex }
+        ensures expression { IsExpression (get_or self.now class []) result.now.vertex result.now.expression.scale result.now.expression.coefficients.items }
+        ensures primitive { IsPrimitive (result.now.expression.scale ∷ result.now.expression.coefficients.items) }
+        ensures below { AreBelow (2 ^ 59) (result.now.expression.scale ∷ result.now.expression.coefficients.items) }
+    {
+        let _dimension = self.dimension();
+        &self.kept(class, facet).outer
     }
 
     /// The vertex of the neighbour at facet `facet` of the class at place `class` that lies outside the class.
@@ -179,27 +180,17 @@ impl Triangulation {
         ensures dimension { length result ≡ dimension_of self.now }
         ensures near { All (IsWithin (2 * span_limit (dimension_of self.now))) result }
     {
-        let _dimension = self.dimension();
-        let found = self.neighbour(class, facet);
-        vertex_moved(
-            self.class(found.class).vertices(),
-            found.vertex,
-            &found.shift,
-        )
+        self.outer(class, facet).vertex.copy()
     }
 
     /// A copy, or Memory where memory was refused.
     pub fn try_copy(&self) -> Result<Triangulation, Memory>
         ensures { IfOk result (λ t. t ≡ self.now) }
     {
-        let mut classes = Vec::new(*self.classes.allocator());
-        for class in &self.classes {
-            match classes.push(class.copy()) {
-                Ok(()) => {}
-                Err(_) => return Err(Memory),
-            }
-        }
-        Ok(Triangulation { classes })
+        let alloc = *self.classes.allocator();
+        let classes = classes_copy(alloc, &self.classes)?;
+        let rows = rows_copy(alloc, &self.rows)?;
+        Ok(Triangulation { classes, rows })
     }
 }
 

@@ -6,11 +6,11 @@ ghost use Rattle.ltypes.specs.Outputs.{IsPrincipalText, IsSummary};
 ghost use Rattle.ltypes.specs.Answers.{Reports, Answers, AnswersCommand, AnswersWords};
 ghost use Rattle.ltypes.specs.Laws.{EachOutputIsOne};
 
-use crate::gate::Gate;
 use crate::printed::write_type;
 use crate::run::run_alone_command;
 use crate::status::{Cause, Status};
 use crate::summary::{Start, write_summary};
+use lt_crew::Gate;
 use lt_io::{Failed, Sink, Source};
 use lt_principal::{principal, principal_form};
 use lt_words::{Command, WordsError, read_words};

@@ -2,14 +2,13 @@
 #![tactic(auto)]
 
 mod command;
-mod gate;
 mod printed;
 mod run;
 mod status;
 mod summary;
 
 pub use command::{ltypes, outputs_are_exact, principal_command, summary_command};
-pub use gate::{Gate, OpenGate};
+use lt_crew::OpenGate;
 use lt_io::{LineSink, StdSink, StdSource};
 pub use run::{narrow_runs_finish, run_alone_command};
 pub use status::{Cause, Status};

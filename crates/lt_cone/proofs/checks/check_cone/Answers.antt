@@ -11,7 +11,10 @@ use Rattle.lt_model.specs.Cones.{Row, Cone, normals, sum_of_walls, IsRightVerdic
 use Rattle.lt_model.specs.Limits.{weight, weight_limit}
 use Rattle.lt_model.specs.Walls.{AreRegulators}
 use Rattle.lt_lp.specs.Reduced.{IsReduced}
-use Rattle.lt_triang.specs.Kept.{dimension_of}
+use Rattle.lt_model.specs.Triangulations.{IsDelaunay}
+use Rattle.lt_triang.specs.Kept.{dimension_of, IsTriangulation}
+use Rattle.lt_triang.proofs.Expressed.{dimension_is}
+use Rattle.lt_geometry.proofs.Fewness.{few_regulators}
 use Rattle.lt_cone.specs.declared.error.ConeFault.{ConeFault}
 use Rattle.lt_cone.specs.declared.error.ConeFault.TheVariants.{Wrong}
 use Rattle.lt_cone.specs.Faults.{IsRowOf, IsFault}
@@ -187,3 +190,28 @@ returns-clause-right c =
       some = r.some;
       sum = r.times;
     }
+
+few : (d : ℕ) (q : List ℤ) (t : List (List (List ℤ))) (ns : List (List ℤ)) → IsTriangulation d t → IsDelaunay (dimension_of t) q t → AreRegulators (dimension_of t) t ns → length ns ≤ 2 ^ 29
+few d q t ns h k r =
+    let same = dimension_is d t h in
+    few_regulators (dimension_of t) q t ns (omega (arith, same, h.low)) (omega (arith, same, h.high)) k r
+
+pub returns-then-weight-clause-small : goal.returns-then-weight-clause-small
+returns-then-weight-clause-small c =
+    let most = few c.dimension-dimension.result c.requires.0 c.args.t.now c.in-Ok.normals.items c.dimension-dimension.ensures c.requires.1 c.in-Ok.ensures in
+    omega (arith, most, c.len-count.ensures, c.in-Ok.normals.ok.0)
+
+pub returns-then-wrong-count-clause-small : goal.returns-then-wrong-count-clause-small
+returns-then-wrong-count-clause-small c =
+    let most = few c.dimension-dimension.result c.requires.0 c.args.t.now c.in-Ok.normals.items c.dimension-dimension.ensures c.requires.1 c.in-Ok.ensures in
+    omega (arith, most, c.len-count.ensures, c.in-Ok.normals.ok.0, c.if-wrong-count.true)
+
+pub returns-then-rows-count-clause-small : goal.returns-then-rows-count-clause-small
+returns-then-rows-count-clause-small c =
+    let most = few c.dimension-dimension.result c.requires.0 c.args.t.now c.in-Ok.normals.items c.dimension-dimension.ensures c.requires.1 c.in-Ok.ensures in
+    omega (arith, most, c.len-count.ensures, c.in-Ok.normals.ok.0)
+
+pub returns-then-ne-clause-small : goal.returns-then-ne-clause-small
+returns-then-ne-clause-small c =
+    let most = few c.dimension-dimension.result c.requires.0 c.args.t.now c.in-Ok.normals.items c.dimension-dimension.ensures c.requires.1 c.in-Ok.ensures in
+    omega (arith, most, c.len-count.ensures, c.in-Ok.normals.ok.0)

@@ -1,4 +1,4 @@
-use Rattle.std.proofs.Common.{◌≡◌, ◌<◌, ◌≤◌, ◌*◌, ◌^◌, suc, ◌∷◌, drop, length, ℕ, ℤ, ◌-ℤ◌, FitsSigned, arith, ap, sym, ◌∙◌, List, nat_abs}
+use Rattle.std.proofs.Common.{◌≡◌, ◌<◌, ◌≤◌, ◌*◌, ◌^◌, suc, ◌∷◌, drop, length, ℕ, ℤ, ◌-ℤ◌, FitsSigned, arith, ap, ◌∙◌, List, nat_abs}
 use Rattle.std.proofs.lemmas.Int.{ints, to_z-of_z}
 use Rattle.std.proofs.lemmas.List.Elements.{All-head, All-tail}
 use mir.Syntax.{w128}
@@ -6,7 +6,7 @@ use Rattle.lt_model.specs.Vectors.{total}
 use Rattle.lt_model.specs.Simplices.{IsClass, IsExpression}
 use Rattle.lt_solve.specs.Systems.{IsSolution, IsColumnDependency, answer_limit}
 use Rattle.lt_triang.specs.Flat.{columns_of}
-use Rattle.lt_triang.proofs.Beyond.{numbers_of, expression_of, no_dependency}
+use Rattle.lt_triang.proofs.Beyond.{expression_of, no_dependency}
 use Rattle.lt_triang.proofs.Columned.{columns-class}
 use Rattle.lt_triang.proofs.Expressed.{primitive_more, below_all}
 use Rattle.lt_triang.proofs.classes.Class.expression.Goals as goal

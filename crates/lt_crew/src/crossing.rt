@@ -1,0 +1,216 @@
+//! One crossing by a worker: the flip, the known types, the recording.
+
+ghost use Rattle.std.specs.Prelude.{◌≡◌, ◌<◌, ◌+◌, false, true};
+ghost use Rattle.std.specs.Result.{IfOk};
+ghost use Rattle.std.specs.Option.{IfSome};
+ghost use Rattle.lt_model.specs.Matrices.{Carries};
+ghost use Rattle.lt_triang.specs.Kept.{dimension_of, IsOfSomeForm};
+ghost use Rattle.lt_core.specs.Marks.{matrix_rows};
+ghost use Rattle.std.specs.Arc.{arc_value};
+ghost use Rattle.lt_crew.specs.Tasks.{IsTask, IsBeyond, IsTest};
+
+use crate::desk::{Answer, Refused, Task, Test};
+use crate::gate::Gate;
+use crate::room::{Order, Room};
+use lt_colour::fingerprint;
+use lt_cone::{ConeError, cone};
+use lt_flip::{FlipError, flip};
+use lt_lattice::Matrix;
+use lt_match::match_types;
+use lt_model::Memory;
+use lt_triang::Triangulation;
+use std::alloc::Global;
+use std::sync::ledger::{Ledger, Share};
+use std::sync::{Arc, Wait};
+
+/// How a crossing ended.
+#[derive(Drop)]
+enum Crossed {
+    /// The position has its mark.
+    Recorded,
+    /// What the worker used has changed, and it begins anew.
+    Anew,
+}
+
+/// How a crossing ends with this answer.
+fn crossing_end(answer: Answer) -> Result<Crossed, Memory> {
+    match answer {
+        Answer::Done => Ok(Crossed::Recorded),
+        Answer::Already => Ok(Crossed::Recorded),
+        Answer::Again => Ok(Crossed::Anew),
+        Answer::Changed => Ok(Crossed::Anew),
+        Answer::Memory => Err(Memory),
+    }
+}
+
+/// The next entry onto which a matrix carries the triangulation, with a copy and the first such matrix; None where there is none up to
+/// the number that is then tested.
+fn seek<L: Ledger, R: Wait>(
+    rt: &R,
+    alloc: Global,
+    room: &Room<L>,
+    beyond: &Triangulation,
+    test: &mut Test,
+) -> Result<Option<(u32, Arc<Triangulation, Global>, Matrix)>, Memory>
+    requires delaunay { IsOfSomeForm beyond.now }
+    requires test { IsTest beyond.now test.old }
+    ensures kept { IsTest beyond.now test.new }
+    ensures found { IfOk result (λ r. IfSome r (λ x. Carries (dimension_of beyond.now) (matrix_rows x.2) beyond.now (arc_value x.1))) }
+{
+    let mut from = test.tested;
+    'seeks: for _ in rt.forever() {
+        let (next, entries) = room.next_known(rt, test.print.as_slice(), from)?;
+        let (k, image) = match next {
+            Some(known) => known,
+            None => {
+                test.tested = entries;
+                return Ok(None);
+            }
+        };
+        from = k + 1;
+        if image.dimension() == beyond.dimension() {
+            if test.known.reserve(1).is_err() {
+                return Err(Memory);
+            }
+            match match_types(alloc, beyond, &image)? {
+                Some(matrix) => return Ok(Some((k, image, matrix))),
+                None => test.known.push_reserved(image),
+            }
+        }
+    }
+    unreachable!()
+}
+
+/// A copy to be shared.
+pub fn shared_copy(alloc: Global, t: &Triangulation) -> Result<Arc<Triangulation, Global>, Memory>
+    ensures { IfOk result (λ s. arc_value s ≡ t.now) }
+{
+    match Arc::new(alloc, t.try_copy()?) {
+        Ok(shared) => Ok(shared),
+        Err(_) => Err(Memory),
+    }
+}
+
+/// Records what lies beyond a facet: the entry onto which it is carried, or itself.
+fn record<L: Ledger, R: Wait>(
+    rt: &R,
+    alloc: Global,
+    room: &Room<L>,
+    position: u64,
+    task: &Task,
+    beyond: Triangulation,
+    share: &mut Share<L>,
+) -> Result<Crossed, Memory>
+    requires part { 0 < share.old.parts }
+    requires beyond { IsBeyond task.now beyond }
+    ensures { share.new.parts ≡ share.old.parts }
+{
+    let mut beyond = beyond;
+    let mut test = Test {
+        print: fingerprint(alloc, &beyond)?,
+        known: Vec::new(alloc),
+        tested: 0,
+    };
+    'tests: for _ in rt.forever() {
+        if let Some((k, image, matrix)) = seek(rt, alloc, room, &beyond, &mut test)? {
+            return crossing_end(room.cross(rt, position, task, k, &image, matrix, share));
+        }
+        match cone(alloc, &beyond) {
+            Ok(cone) => {
+                let copy = shared_copy(alloc, &beyond)?;
+                match room.grow(rt, position, task, beyond, copy, cone, &test, share) {
+                    Ok(()) => return Ok(Crossed::Recorded),
+                    Err(refused) => {
+                        let Refused {
+                            answer,
+                            beyond: back,
+                            cone: _,
+                        } = refused;
+                        match answer {
+                            Answer::Again => beyond = back,
+                            answer => return crossing_end(answer),
+                        }
+                    }
+                }
+            }
+            Err(ConeError::Heavy { weight }) => {
+                match room.weigh(rt, position, task, &beyond, weight, &test, share) {
+                    Answer::Again => {}
+                    answer => return crossing_end(answer),
+                }
+            }
+            Err(ConeError::Memory) => return Err(Memory),
+        }
+    }
+    unreachable!()
+}
+
+/// Crosses the facet of a task, and records what lies beyond.
+fn crossing<L: Ledger, R: Wait, G: Gate>(
+    rt: &R,
+    alloc: Global,
+    room: &Room<L>,
+    gate: &G,
+    worker: u32,
+    position: u64,
+    task: &Task,
+    passed: bool,
+    share: &mut Share<L>,
+) -> Result<Crossed, Memory>
+    requires part { 0 < share.old.parts }
+    requires task { IsTask task.now }
+    ensures { share.new.parts ≡ share.old.parts }
+{
+    match flip(alloc, &task.home, &task.normal) {
+        Ok(beyond) => {
+            if !passed {
+                gate.pass(worker, position);
+            }
+            record(rt, alloc, room, position, task, beyond, share)
+        }
+        Err(FlipError::Wide { class, span }) => {
+            if !passed {
+                gate.pass(worker, position);
+            }
+            crossing_end(room.widen(rt, position, task, class, span, share))
+        }
+        Err(FlipError::Memory) => Err(Memory),
+    }
+}
+
+/// Serves one position. False where the worker has nothing left to do.
+pub fn serve<L: Ledger, R: Wait, G: Gate>(
+    rt: &R,
+    alloc: Global,
+    room: &Room<L>,
+    gate: &G,
+    worker: u32,
+    position: u64,
+    share: &mut Share<L>,
+) -> bool
+    requires { 0 < share.old.parts }
+    ensures { share.new.parts ≡ share.old.parts }
+{
+    let mut passed = false;
+    'tries: for _ in rt.forever() {
+        let task = match room.order(rt, position) {
+            Order::Over => return false,
+            Order::Cross { task } => task,
+            Order::Memory => {
+                room.note_memory(rt);
+                return false;
+            }
+        };
+        match crossing(
+            rt, alloc, room, gate, worker, position, &task, passed, share,
+        ) {
+            Ok(Crossed::Recorded) => return true,
+            Ok(Crossed::Anew) => passed = true,
+            Err(_) => {
+                room.note_memory(rt);
+                return false;
+            }
+        }
+    }
+    unreachable!()
+}

@@ -1,0 +1,14 @@
+pub mod Negated
+pub mod Holding
+pub mod Halves
+pub mod Shortest
+pub mod Listing
+pub mod EdgeCount
+pub mod RegulatorLists
+pub mod Suffice
+pub mod FacetLaws
+pub mod Orthogonal
+pub mod Circumradii
+pub mod EdgesListed
+pub mod Sections
+pub mod Covering

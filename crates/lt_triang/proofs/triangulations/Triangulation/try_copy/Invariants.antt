@@ -1,5 +1,0 @@
-use Rattle.std.proofs.Common.{◌≡◌, take}
-use Rattle.lt_triang.proofs.triangulations.Triangulation.try_copy.Given as goal
-
-abbrev pub invariant-loop-class : goal.invariant-loop-class
-invariant-loop-class l = l.classes.items ≡ take l.class-index l.class-items

@@ -1,0 +1,163 @@
+//! An index of the facets of classes: facets that are translates of one another stand in one bucket.
+
+ghost use Rattle.std.specs.Prelude.{◌≡◌, ◌<◌, ◌≤◌, ◌++◌, ◌∷◌, suc, ℕ, List, [], length, get_or, set, IfOk, IfSome, MatchOption};
+ghost use Rattle.lt_triang.specs.Across.{IsOpen, IsFacing, IsNotFacing};
+ghost use Rattle.lt_triang.specs.Codes as codes;
+ghost use Rattle.lt_triang.specs.Indexed.{buckets_of, IsIndexBelow, IsIndex, ArePlaces, AreNotFacing, IsFirstIn, IsOuterIn, HasOuter, IsKept};
+ghost use Rattle.lt_triang.specs.Kept.{AreClasses};
+
+use crate::classes::Class;
+use crate::codes::facet_code;
+use crate::neighbours::{Across, Neighbour, Outer, class_at, facing, member};
+use lt_lattice::Point;
+use lt_model::Memory;
+use std::alloc::Global;
+
+/// The bucket, of as many as there are classes, of a facet with this code.
+fn bucket_of(d: usize, classes: &[Class], n: usize, j: usize) -> usize
+    requires members { AreClasses d classes.now }
+    requires class { n < length classes.now }
+    requires place { j < suc d }
+    ensures value { result ≡ codes.bucket_of classes.now n j }
+    ensures within { result < length classes.now }
+{
+    let code = facet_code(d, member(classes, n), j).unsigned_abs();
+    (code % classes.len() as u64) as usize
+}
+
+/// As many empty buckets.
+fn empty_buckets(alloc: Global, count: usize) -> Result<Vec<Vec<(usize, usize)>>, Memory>
+    ensures { IfOk result (λ bs. (length (buckets_of bs.items) ≡ count) × ((b : ℕ) → get_or (buckets_of bs.items) b [] ≡ [])) }
+{
+    let mut buckets = Vec::new(alloc);
+    for _b in 0..count {
+        match buckets.push(Vec::new(alloc)) {
+            Ok(()) => {}
+            Err(_) => return Err(Memory),
+        }
+    }
+    Ok(buckets)
+}
+
+/// Puts a facet at the end of a bucket.
+fn put(
+    buckets: &mut Vec<Vec<(usize, usize)>>,
+    bucket: usize,
+    facet: (usize, usize),
+) -> Result<(), Memory>
+    requires { bucket < length (buckets_of buckets.old.items) }
+    ensures { IfOk result (λ _. buckets_of buckets.new.items ≡ set (buckets_of buckets.old.items) bucket (get_or (buckets_of buckets.old.items) bucket [] ++ facet ∷ [])) }
+{
+    match buckets[bucket].push(facet) {
+        Ok(()) => Ok(()),
+        Err(_) => Err(Memory),
+    }
+}
+
+/// Puts the facets of the class at place `n` into their buckets.
+fn put_class(
+    buckets: &mut Vec<Vec<(usize, usize)>>,
+    d: usize,
+    classes: &[Class],
+    n: usize,
+) -> Result<(), Memory>
+    requires members { AreClasses d classes.now }
+    requires class { n < length classes.now }
+    requires from { IsIndexBelow d classes.now n 0 (buckets_of buckets.old.items) }
+    ensures { IfOk result (λ _. IsIndexBelow d classes.now (suc n) 0 (buckets_of buckets.new.items)) }
+{
+    for j in 0..d + 1 {
+        let bucket = bucket_of(d, classes, n, j);
+        put(buckets, bucket, (n, j))?;
+    }
+    Ok(())
+}
+
+/// The index of the facets of the classes.
+pub fn index_of(
+    alloc: Global,
+    d: usize,
+    classes: &[Class],
+) -> Result<Vec<Vec<(usize, usize)>>, Memory>
+    requires { AreClasses d classes.now }
+    ensures { IfOk result (λ bs. IsIndex d classes.now (buckets_of bs.items)) }
+{
+    let mut buckets = empty_buckets(alloc, classes.len())?;
+    for n in 0..classes.len() {
+        put_class(&mut buckets, d, classes, n)?;
+    }
+    Ok(buckets)
+}
+
+/// The shift by which facet `vertex` of the class at place `class` lies across facet `i` of the class at place `n`, and the vertex
+/// outside. A facet doesn't lie across itself.
+fn facing_at(
+    d: usize,
+    classes: &[Class],
+    n: usize,
+    i: usize,
+    class: usize,
+    vertex: usize,
+) -> Option<(Point, Outer)>
+    requires members { AreClasses d classes.now }
+    requires class { n < length classes.now }
+    requires place { i < suc d }
+    requires class_too { class < length classes.now }
+    requires place_too { vertex < suc d }
+    ensures facing { MatchOption result (IsNotFacing d (get_or classes.now n []) i (get_or classes.now class []) vertex) (λ r. IsFacing d (get_or classes.now n []) i (get_or classes.now class []) r.0 vertex) }
+    ensures outer { IfSome result (λ r. IsOuterIn (get_or classes.now n []) (get_or classes.now class []) r.0 vertex r.1.vertex r.1.expression.scale r.1.expression.coefficients.items) }
+{
+    if class == n && vertex == i {
+        None
+    } else {
+        facing(d, class_at(classes, n), i, member(classes, class), vertex)
+    }
+}
+
+/// The first of the facets that lies across facet `i` of the class at place `n`.
+fn first_in(
+    d: usize,
+    classes: &[Class],
+    n: usize,
+    i: usize,
+    facets: &[(usize, usize)],
+) -> Option<Across>
+    requires members { AreClasses d classes.now }
+    requires class { n < length classes.now }
+    requires place { i < suc d }
+    requires facets { ArePlaces d classes.now facets.now }
+    ensures first { MatchOption result (AreNotFacing d classes.now (get_or classes.now n []) i facets.now (length facets.now)) (λ a. IsFirstIn d classes.now (get_or classes.now n []) i facets.now a.neighbour.class a.neighbour.shift a.neighbour.vertex) }
+    ensures outer { IfSome result (HasOuter classes.now (get_or classes.now n [])) }
+{
+    for q in 0..facets.len() {
+        let (class, vertex) = facets[q];
+        if let Some((shift, outer)) = facing_at(d, classes, n, i, class, vertex) {
+            let neighbour = Neighbour {
+                class,
+                shift,
+                vertex,
+            };
+            return Some(Across { neighbour, outer });
+        }
+    }
+    None
+}
+
+/// The first member across facet `i` of the class at place `n`, in the order of members and vertices.
+pub fn first_across(
+    d: usize,
+    classes: &[Class],
+    index: &[Vec<(usize, usize)>],
+    n: usize,
+    i: usize,
+) -> Option<Across>
+    requires members { AreClasses d classes.now }
+    requires index { IsIndex d classes.now (buckets_of index.now) }
+    requires class { n < length classes.now }
+    requires place { i < suc d }
+    ensures { MatchOption result (IsOpen d classes.now (get_or classes.now n []) i) (IsKept d classes.now (get_or classes.now n []) i) }
+{
+    let bucket = bucket_of(d, classes, n, i);
+    let facets = index[bucket].as_slice();
+    first_in(d, classes, n, i, facets)
+}

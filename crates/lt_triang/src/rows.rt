@@ -1,0 +1,119 @@
+//! The neighbours at the facets of each class.
+
+ghost use Rattle.std.specs.Prelude.{◌≡◌, ◌<◌, ◌≤◌, suc, ℕ, List, [], length, get_or, IfOk};
+ghost use Rattle.lt_triang.specs.Across.{IsFirstOpenOf, IsFirstOpen};
+ghost use Rattle.lt_triang.specs.Indexed.{buckets_of, IsIndex, IsRow, AreRows};
+ghost use Rattle.lt_triang.specs.Kept.{AreClasses};
+ghost use Rattle.lt_triang.specs.declared.errors.TriangError.TheVariants.{OpenFacet};
+
+use crate::classes::Class;
+use crate::errors::TriangError;
+use crate::indexes::{first_across, index_of};
+use crate::neighbours::Across;
+use lt_model::Memory;
+use std::alloc::Global;
+use std::marker::Model;
+
+/// The neighbours at the facets of a class.
+#[derive(Drop)]
+pub struct Row {
+    facets: Vec<Across>,
+}
+
+impl Model for Row {
+    ghost use Rattle.std.specs.Prelude.{List};
+    ghost use Rattle.lt_triang.specs.declared.neighbours.Across.{Across};
+
+    ghost Value = { List Across };
+
+    ghost view = { λ r. r.facets.items };
+}
+
+impl Row {
+    /// The neighbour at facet `i`.
+    pub fn at(&self, i: usize) -> &Across
+        requires { i < length self.now }
+        ensures { result.now ≡ get_or self.now i result.now }
+    {
+        &self.facets[i]
+    }
+
+    /// The same row.
+    fn try_copy(&self, alloc: Global) -> Result<Row, Memory>
+        ensures { IfOk result (λ r. r ≡ self.now) }
+    {
+        let mut facets = Vec::new(alloc);
+        for across in &self.facets {
+            match facets.push(across.copy()) {
+                Ok(()) => {}
+                Err(_) => return Err(Memory),
+            }
+        }
+        Ok(Row { facets })
+    }
+}
+
+/// The neighbours of the class at place `n`, or the first of its facets that is open.
+fn row_of(
+    alloc: Global,
+    d: usize,
+    classes: &[Class],
+    index: &[Vec<(usize, usize)>],
+    n: usize,
+) -> Result<Row, TriangError>
+    requires members { AreClasses d classes.now }
+    requires index { IsIndex d classes.now (buckets_of index.now) }
+    requires class { n < length classes.now }
+    ensures row { IfOk result (IsRow d classes.now (get_or classes.now n [])) }
+    ensures open { (class facet : ℕ) → result ≡ Err (OpenFacet class facet) → (class ≡ n) × IsFirstOpenOf d classes.now (get_or classes.now n []) facet }
+{
+    let mut facets = Vec::new(alloc);
+    for i in 0..d + 1 {
+        match first_across(d, classes, index, n, i) {
+            Some(found) => match facets.push(found) {
+                Ok(()) => {}
+                Err(_) => return Err(TriangError::Memory),
+            },
+            None => return Err(TriangError::OpenFacet { class: n, facet: i }),
+        }
+    }
+    Ok(Row { facets })
+}
+
+/// The neighbours of the classes, or the first open facet, in the order of classes and facets.
+pub fn rows_of(alloc: Global, d: usize, classes: &[Class]) -> Result<Vec<Row>, TriangError>
+    requires { AreClasses d classes.now }
+    ensures rows { IfOk result (λ rows. AreRows d classes.now (length classes.now) rows.items) }
+    ensures open { (class facet : ℕ) → result ≡ Err (OpenFacet class facet) → IsFirstOpen d classes.now class facet }
+{
+    let index = match index_of(alloc, d, classes) {
+        Ok(index) => index,
+        Err(_) => return Err(TriangError::Memory),
+    };
+    let mut rows = Vec::new(alloc);
+    for n in 0..classes.len() {
+        match row_of(alloc, d, classes, &index, n) {
+            Ok(row) => match rows.push(row) {
+                Ok(()) => {}
+                Err(_) => return Err(TriangError::Memory),
+            },
+            Err(why) => return Err(why),
+        }
+    }
+    Ok(rows)
+}
+
+/// Copies of the rows.
+pub fn rows_copy(alloc: Global, given: &[Row]) -> Result<Vec<Row>, Memory>
+    ensures { IfOk result (λ rows. rows.items ≡ given.now) }
+{
+    let mut rows = Vec::new(alloc);
+    for row in given {
+        let copy = row.try_copy(alloc)?;
+        match rows.push(copy) {
+            Ok(()) => {}
+            Err(_) => return Err(Memory),
+        }
+    }
+    Ok(rows)
+}
