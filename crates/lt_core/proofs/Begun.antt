@@ -44,7 +44,7 @@ placed_in k f (m ∷ ms) (suc i) h =
     if_later m (k, f) (open_in k (suc f) ms) (k, f + suc i)
     (subst (λ j. Contains (open_in k (suc f) ms) (k, j)) e (placed_in k (suc f) ms i h))
 
-placed : (k : ℕ) (mss : List (List Mark)) (j i : ℕ) → get_or (get_or mss j []) i no_mark ≡ open_mark → Contains (open_places k mss) (k + j, i)
+pub placed : (k : ℕ) (mss : List (List Mark)) (j i : ℕ) → get_or (get_or mss j []) i no_mark ≡ open_mark → Contains (open_places k mss) (k + j, i)
 placed k [] j i h = absurd (open_is_some (sym h))
 placed k (ms ∷ mss) zero i h =
     let e : k ≡ k + 0 = omega arith in
@@ -104,7 +104,7 @@ length-all_places k (n ∷ ns) =
 begun : (a : Atlas) → length a.log ≡ length a.log - 0
 begun a = omega arith
 
-begin-lengths : (a : Atlas) → lengths (begin a) ≡ take (length (lengths a) - fresh_events a.log) (lengths a)
+pub begin-lengths : (a : Atlas) → lengths (begin a) ≡ take (length (lengths a) - fresh_events a.log) (lengths a)
 begin-lengths a = all_lengths (length a.log - 0) a (begun a)
 
 begin-queue : (a : Atlas) → IsQueue a → (begin a).queue ≡ open_places 0 (begin a).marks

@@ -10,7 +10,7 @@ use Rattle.lt_geometry.proofs.Fewness.{few_regulators}
 use Rattle.lt_core.proofs.Crossings.{HasForm, across_form, across_laws}
 use Rattle.lt_core.proofs.Reaching.{entry_form}
 
-facets_most : (rows : List Row) → length (facets_of rows) ≤ length rows
+pub facets_most : (rows : List Row) → length (facets_of rows) ≤ length rows
 facets_most [] = omega arith
 facets_most (r ∷ rows) = pick r.verdict (facets_most rows)
   where
@@ -18,7 +18,7 @@ facets_most (r ∷ rows) = pick r.verdict (facets_most rows)
     pick (wall w) h = omega (arith, h)
     pick (combination f ts) h = omega (arith, h)
 
-few_rows : (d : ℕ) (t : Classes) (c : Cone) → 2 ≤ d → d ≤ 6 → HasForm d t → IsRightCone d t c → length c.rows ≤ 2 ^ 29
+pub few_rows : (d : ℕ) (t : Classes) (c : Cone) → 2 ≤ d → d ≤ 6 → HasForm d t → IsRightCone d t c → length c.rows ≤ 2 ^ 29
 few_rows d t c low high form h =
     let k = few_regulators d form.0 t (normals c.rows) low high form.1 h.regulators in
     let l = length-map c.rows (λ (r : Row). r.normal) in

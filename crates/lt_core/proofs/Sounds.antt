@@ -133,7 +133,7 @@ queued_inside i b p e h = subst (λ (z : model.Atlas). p < length z.queue) (sym 
 
 -- ---- an event with an entry
 
-identity_rows : (d : ℕ) → 2 ≤ d → d ≤ 6 → matrix_rows (flat (identity d)) ≡ identity d
+pub identity_rows : (d : ℕ) → 2 ≤ d → d ≤ 6 → matrix_rows (flat (identity d)) ≡ identity d
 identity_rows zero low high = absurd (omega arith)
 identity_rows (suc zero) low high = absurd (omega arith)
 identity_rows (suc (suc zero)) low high = refl

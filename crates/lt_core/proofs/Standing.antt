@@ -20,7 +20,7 @@ use Rattle.lt_core.proofs.Undone.{fresh-append}
 
 -- ---- crossings
 
-side_of : (d : ℕ) → 2 ≤ d → d ≤ 6 → side (d * d) ≡ d
+pub side_of : (d : ℕ) → 2 ≤ d → d ≤ 6 → side (d * d) ≡ d
 side_of zero low high = absurd (omega arith)
 side_of (suc zero) low high = absurd (omega arith)
 side_of (suc (suc zero)) low high = refl

@@ -14,6 +14,7 @@ mod refusals;
 
 pub use atlas::Atlas;
 pub use marks::{Entry, Event, Mark};
+pub use prints::prints_of;
 pub use refusals::{Already, Back, Missed, Why};
 
 /// Facet crossings reach each entry of an atlas from the first one; and where all facets are crossed, each triangulation

@@ -8,6 +8,7 @@ ghost use Rattle.lt_triang.specs.Kept.{dimension_of, IsOfSomeForm};
 ghost use Rattle.lt_core.specs.Marks.{matrix_rows};
 ghost use Rattle.std.specs.Arc.{arc_value};
 ghost use Rattle.lt_crew.specs.Tasks.{IsTask, IsBeyond, IsTest};
+ghost use Rattle.lt_crew.specs.Orders.{IsBack};
 
 use crate::desk::{Answer, Refused, Task, Test};
 use crate::gate::Gate;
@@ -25,7 +26,7 @@ use std::sync::{Arc, Wait};
 
 /// How a crossing ended.
 #[derive(Drop)]
-enum Crossed {
+pub enum Crossed {
     /// The position has its mark.
     Recorded,
     /// What the worker used has changed, and it begins anew.
@@ -91,6 +92,59 @@ pub fn shared_copy(alloc: Global, t: &Triangulation) -> Result<Arc<Triangulation
     }
 }
 
+/// How an attempt to enter what lies beyond a facet ends.
+#[derive(Drop)]
+pub enum Entered {
+    /// So does the crossing.
+    Ended(Crossed),
+    /// Entries came in between, and the triangulation is handed back.
+    Again(Triangulation),
+}
+
+/// Records what lies beyond a facet, and is like no entry that was compared with it: as a new entry, or as too heavy.
+fn enter<L: Ledger, R: Wait>(
+    rt: &R,
+    alloc: Global,
+    room: &Room<L>,
+    position: u64,
+    task: &Task,
+    beyond: Triangulation,
+    test: &Test,
+    share: &mut Share<L>,
+) -> Result<Entered, Memory>
+    requires part { 0 < share.old.parts }
+    requires beyond { IsBeyond task.now beyond }
+    requires tested { IsTest beyond test.now }
+    ensures parts { share.new.parts ≡ share.old.parts }
+    ensures back { IfOk result (IsBack beyond) }
+{
+    let cone = match cone(alloc, &beyond) {
+        Ok(cone) => cone,
+        Err(ConeError::Heavy { weight }) => {
+            return match room.weigh(rt, position, task, &beyond, weight, test, share) {
+                Answer::Again => Ok(Entered::Again(beyond)),
+                answer => Ok(Entered::Ended(crossing_end(answer)?)),
+            };
+        }
+        Err(ConeError::Memory) => return Err(Memory),
+    };
+    let copy = shared_copy(alloc, &beyond)?;
+    match room.grow(rt, position, task, beyond, copy, cone, test, share) {
+        Ok(()) => Ok(Entered::Ended(Crossed::Recorded)),
+        Err(refused) => {
+            let Refused {
+                answer,
+                beyond: back,
+                cone: _,
+            } = refused;
+            match answer {
+                Answer::Again => Ok(Entered::Again(back)),
+                answer => Ok(Entered::Ended(crossing_end(answer)?)),
+            }
+        }
+    }
+}
+
 /// Records what lies beyond a facet: the entry onto which it is carried, or itself.
 fn record<L: Ledger, R: Wait>(
     rt: &R,
@@ -115,31 +169,9 @@ fn record<L: Ledger, R: Wait>(
         if let Some((k, image, matrix)) = seek(rt, alloc, room, &beyond, &mut test)? {
             return crossing_end(room.cross(rt, position, task, k, &image, matrix, share));
         }
-        match cone(alloc, &beyond) {
-            Ok(cone) => {
-                let copy = shared_copy(alloc, &beyond)?;
-                match room.grow(rt, position, task, beyond, copy, cone, &test, share) {
-                    Ok(()) => return Ok(Crossed::Recorded),
-                    Err(refused) => {
-                        let Refused {
-                            answer,
-                            beyond: back,
-                            cone: _,
-                        } = refused;
-                        match answer {
-                            Answer::Again => beyond = back,
-                            answer => return crossing_end(answer),
-                        }
-                    }
-                }
-            }
-            Err(ConeError::Heavy { weight }) => {
-                match room.weigh(rt, position, task, &beyond, weight, &test, share) {
-                    Answer::Again => {}
-                    answer => return crossing_end(answer),
-                }
-            }
-            Err(ConeError::Memory) => return Err(Memory),
+        match enter(rt, alloc, room, position, task, beyond, &test, share)? {
+            Entered::Ended(crossed) => return Ok(crossed),
+            Entered::Again(back) => beyond = back,
         }
     }
     unreachable!()

@@ -4,7 +4,7 @@ ghost use Rattle.std.specs.Prelude.{◌≡◌, ◌≢◌, ◌<◌, ◌≤◌, �
 ghost use Rattle.std.specs.Result.{OnOk, OnErr, IfOk, IfErr};
 ghost use Rattle.std.specs.Option.{IfSome};
 ghost use Rattle.std.specs.Arc.{arc_value};
-ghost use Rattle.lt_model.specs.Atlases.{event_at};
+ghost use Rattle.lt_crew.specs.Runs.{AreBelow};
 ghost use Rattle.lt_crew.specs.Shared.{triangulation_of};
 
 use crate::known::{are_known, same_normal};
@@ -53,7 +53,7 @@ pub struct Desk<L: Ledger> {
     book: Book<L>,
     ghost counted: { book.total ≡ length atlas.log },
     ghost all_shared: { map arc_value shared.items ≡ map triangulation_of atlas.entries },
-    ghost below: { (i : ℕ) → i < length atlas.log → (event_at atlas.log i).position < steps },
+    ghost below: { AreBelow steps atlas.log },
     ghost few_steps: { steps ≤ 100000 },
     ghost few: { length atlas.entries ≤ 100001 + length atlas.log },
 }
@@ -118,7 +118,7 @@ impl<L: Ledger> Desk<L> {
     /// The atlas, the limit, and whether memory was refused. The share with every part has as its amount the number of events.
     pub fn open(self, all: &mut Share<L>) -> (Atlas, u64, bool)
         ensures parts { (result.0 ≡ self.atlas) × (result.1 ≡ self.steps) × (result.2 ≡ self.memory) }
-        ensures below { (i : ℕ) → i < length result.0.log → (event_at result.0.log i).position < result.1 }
+        ensures below { AreBelow result.1 result.0.log }
         ensures few_steps { result.1 ≤ 100000 }
         ensures few { length result.0.entries ≤ 100001 + length result.0.log }
         ensures gathered { all.old.parts ≡ L.parts → all.new.amount ≡ length result.0.log }

@@ -1,5 +1,5 @@
 mod Independent
-mod Near
+pub mod Near
 mod MadeClasses
 mod Collected
 mod Wide

@@ -5,9 +5,13 @@
 #[cfg(test)]
 mod atlases;
 #[cfg(test)]
+mod claims;
+#[cfg(test)]
 mod colours;
 #[cfg(test)]
 mod cones;
+#[cfg(test)]
+mod drills;
 #[cfg(test)]
 mod flips;
 #[cfg(test)]

@@ -117,7 +117,7 @@ entries marks k (e ∷ es) =
     ∙ ap (λ l. l ++ bytes_of (spelt.entries_lines (suc k) (entries_value marks (suc k) es))) (entry k e (get_or marks k []))
     ∙ ap (λ l. entry_text k e (get_or marks k []) ++ l) (entries marks (suc k) es)
 
-entries_long : (marks : List (List Mark)) (k : ℕ) (es : List Entry) → length (entries_value marks k es) ≡ length es
+pub entries_long : (marks : List (List Mark)) (k : ℕ) (es : List Entry) → length (entries_value marks k es) ≡ length es
 entries_long marks k [] = refl
 entries_long marks k (e ∷ es) = ap suc (entries_long marks (suc k) es)
 

@@ -1,7 +1,8 @@
 -- Where the fault stands in words that begin with a known front.
 use Rattle.std.proofs.Common.{◌≡◌, ℕ, ◌+◌, ◌<◌, List, [], ◌∷◌, ◌++◌, length, get_or, take, refl, sym, ap, ◌∙◌, subst, arith, append_assoc, length-append}
 use Rattle.std.proofs.lemmas.List.{append-nil, get_or_at, take_at}
-use Rattle.lt_words.specs.Grammar.{IsAccepted, Begins, FaultAt, HasFront}
+use Rattle.lt_words.specs.Grammar.{IsAccepted, Begins, FaultAt}
+use Rattle.lt_words.specs.Parts.{HasFront}
 
 -- a front of a command's words
 pub begins : (front rest : List (List ℕ)) → IsAccepted (front ++ rest) → Begins front
@@ -11,7 +12,7 @@ accepted : (front : List (List ℕ)) → (b : Begins front) → IsAccepted (fron
 accepted front b = (b.0, b.2, b.3)
 
 -- words as many as their front are no more
-front_alone : (ws front : List (List ℕ)) → HasFront ws front → length ws ≡ length front → ws ≡ front
+pub front_alone : (ws front : List (List ℕ)) → HasFront ws front → length ws ≡ length front → ws ≡ front
 front_alone ws front ([], e) len = e ∙ append-nil front
 front_alone ws front (v ∷ rest, e) len = absurd (omega (arith, len, ap length e, length-append front (v ∷ rest)))
 

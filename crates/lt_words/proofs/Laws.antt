@@ -1,12 +1,18 @@
 -- Words have a fault at one place at most, and are one command at most.
-use Rattle.std.proofs.Common.{◌≡◌, ℕ, zero, suc, ◌+◌, ◌<◌, ◌≤◌, List, [], ◌∷◌, ◌++◌, take, drop, codes, refl, inl, inr, sym, ap, subst, ◌∙◌, arith, append_assoc}
+use Rattle.std.proofs.Common.{◌≡◌, ℕ, zero, suc, ◌+◌, ◌<◌, ◌≤◌, Bool, true, false, List, [], ◌∷◌, ◌++◌, take, drop, codes, refl, inl, inr, sym, ap, subst, ◌∙◌, arith, append_assoc}
 use Rattle.std.proofs.lemmas.List.{take-append-drop, take-take}
 use Rattle.std.proofs.lemmas.Fmt.{decimal_injective}
 use Rattle.std.specs.Fmt.{decimal}
 use Rattle.lt_words.specs.declared.words.Command.{Command}
-use Rattle.lt_words.specs.declared.words.Command.TheVariants.{Principal, Summary, Run}
-use Rattle.lt_words.specs.Grammar.{IsDimension, InRange, Spells, Begins, FaultAt, most_steps}
+use Rattle.lt_words.specs.declared.words.Command.TheVariants.{Principal, Summary, Check, Run}
+use Rattle.lt_words.specs.declared.options.Setting.TheVariants.{Workers, Steps}
+use Rattle.lt_words.specs.declared.options.Part.TheVariants.{Dimension, Resume, Ending, Named, Joined}
+use Rattle.lt_words.specs.Grammar.{IsDimension, InRange, Item, dimension, setting, resuming, ending, setting_word, AreSpellings, numbers, times, IsChosen, MakeRun, Spells, Begins, FaultAt, most_steps}
+use Rattle.lt_words.specs.Parts.{part_word}
 use Rattle.lt_model.specs.Limits.{step_limit}
+use Rattle.lt_words.proofs.Ends.{no_items}
+use Rattle.lt_words.proofs.Spellings.{same_number, behind}
+use Rattle.lt_words.proofs.Tails.{kind_of, first_word, same_kind}
 
 -- fewer words of a front begin a command too
 begins_before : (ws : List (List ℕ)) (p q : ℕ) → p ≤ q → Begins (take q ws) → Begins (take p ws)
@@ -22,34 +28,79 @@ no_later_fault ws p q f h lt = f.here (omega (arith, h.within)) (begins_before w
 pub one_place : (ws : List (List ℕ)) (p q : ℕ) → FaultAt ws p → FaultAt ws q → p ≡ q
 one_place ws p q f h = omega (arith, no_later_fault ws p q f h, no_later_fault ws q p h f)
 
-same_dimension : (d d' : ℕ) → IsDimension d → IsDimension d' → decimal d ≡ decimal d' → d ≡ d'
-same_dimension d d' r r' e = decimal_injective d d' (omega (arith, r.1)) (omega (arith, r'.1)) e
+-- ---- one command
 
-same_run : (d d' s s' : ℕ) → d ≡ d' → s ≡ s' → Run d s ≡ Run d' s'
-same_run d d' s s' e f = rw (e, f) refl
+same_dimension : (d e : ℕ) → IsDimension d → IsDimension e → decimal d ≡ decimal e → d ≡ e
+same_dimension d e r q is = decimal_injective d e (omega (arith, r.1)) (omega (arith, q.1)) is
 
-one_run : (d d' s s' : ℕ) (ws : List (List ℕ)) → InRange (Run d s) → InRange (Run d' s') → Spells (Run d s) ws → Spells (Run d' s') ws → Run d s ≡ Run d' s'
-one_run d d' s s' ws r r' (inl e) (inl f) =
-    same_run d d' s s' (same_dimension d d' r.0 r'.0 (cc)) (decimal_injective s s' (omega (arith, r.1)) (omega (arith, r'.1)) (cc))
-one_run d d' s s' ws r r' (inl e) (inr f) = let g = f.1 in absurd (cc)
-one_run d d' s s' ws r r' (inr e) (inl f) = let g = e.1 in absurd (cc)
-one_run d d' s s' ws r r' (inr e) (inr f) = let g = e.1 in let h = f.1 in same_run d d' s s' (same_dimension d d' r.0 r'.0 (cc)) (e.0 ∙ sym f.0)
+-- words are one list of items at most
+one_list : (items others : List Item) (ws : List (List ℕ)) → AreSpellings items ws → AreSpellings others ws → items ≡ others
+one_list [] others ws e m = sym (no_items others (subst (AreSpellings others) e m))
+one_list (dimension d ∷ items) others ws (own, rest, e, (r, o), m) n =
+    let f : ws ≡ decimal d ∷ rest = e ∙ ap (λ (l : List (List ℕ)). l ++ rest) o in
+    let (more, same, k) = behind (Dimension d) others rest r (subst (AreSpellings others) f n) in
+    ap (λ l. dimension d ∷ l) (one_list items more rest m k) ∙ sym same
+one_list (setting s v ∷ items) others ws (own, rest, e, (r, inl o), m) n =
+    let f : ws ≡ setting_word s ∷ decimal v ∷ rest = e ∙ ap (λ (l : List (List ℕ)). l ++ rest) o in
+    let (u, later, more, w, q, same, k) = behind (Named s) others (decimal v ∷ rest) tt (subst (AreSpellings others) f n) in
+    let number : v ≡ u = same_number s v u r q (let g = w in cc) in
+    let behind_it : later ≡ rest = let g = w in cc in
+    ap (λ x. setting s x ∷ items) number ∙ ap (λ l. setting s u ∷ l) (one_list items more rest m (subst (AreSpellings more) behind_it k)) ∙ sym same
+one_list (setting s v ∷ items) others ws (own, rest, e, (r, inr o), m) n =
+    let f : ws ≡ part_word (Joined s v) ∷ rest = e ∙ ap (λ (l : List (List ℕ)). l ++ rest) o in
+    let (more, same, k) = behind (Joined s v) others rest r (subst (AreSpellings others) f n) in
+    ap (λ l. setting s v ∷ l) (one_list items more rest m k) ∙ sym same
+one_list (resuming ∷ items) others ws (own, rest, e, o, m) n =
+    let f : ws ≡ codes "--resume" ∷ rest = e ∙ ap (λ (l : List (List ℕ)). l ++ rest) o in
+    let (more, same, k) = behind Resume others rest tt (subst (AreSpellings others) f n) in
+    ap (λ l. resuming ∷ l) (one_list items more rest m k) ∙ sym same
+one_list (ending ∷ items) others ws (own, rest, e, o, m) n =
+    let f : ws ≡ codes "--" ∷ rest = e ∙ ap (λ (l : List (List ℕ)). l ++ rest) o in
+    let (more, same, k) = behind Ending others rest tt (subst (AreSpellings others) f n) in
+    ap (λ l. ending ∷ l) (one_list items more rest m k) ∙ sym same
 
-no_run : (d s : ℕ) (u v : List ℕ) → (u ≡ codes "run" → ⊥) → Spells (Run d s) (u ∷ v ∷ []) → ⊥
-no_run d s u v other (inl e) = cc
-no_run d s u v other (inr e) = let f = e.1 in other (cc)
+one_chosen : (default : ℕ) (named : List ℕ) (n m : ℕ) → IsChosen default named n → IsChosen default named m → n ≡ m
+one_chosen default named n m (inl e) (inl f) = cc
+one_chosen default named n m (inl e) (inr f) = let g = f.0 in absurd (cc)
+one_chosen default named n m (inr e) (inl f) = let g = e.0 in absurd (cc)
+one_chosen default named n m (inr e) (inr f) = e.1 ∙ sym f.1
+
+one_flag : (r q : Bool) → times r ≡ times q → r ≡ q
+one_flag true true e = refl
+one_flag true false e = absurd (omega (arith, e))
+one_flag false true e = absurd (omega (arith, e))
+one_flag false false e = refl
+
+one_run : (d e w v s t : ℕ) (r q : Bool) (items : List Item) → MakeRun d w s r items → MakeRun e v t q items → Run d w s r ≡ Run e v t q
+one_run d e w v s t r q items m n =
+    let dimensions : d ≡ e = let f = m.one_dimension in let g = n.one_dimension in cc in
+    let workers = one_chosen 1 (numbers Workers items) w v m.chosen_workers n.chosen_workers in
+    let steps = one_chosen most_steps (numbers Steps items) s t m.chosen_steps n.chosen_steps in
+    let flags = one_flag r q (sym m.resumed ∙ n.resumed) in
+    cc
+
+same_runs : (d e w v s t : ℕ) (r q : Bool) (ws : List (List ℕ)) → Spells (Run d w s r) ws → Spells (Run e v t q) ws → Run d w s r ≡ Run e v t q
+same_runs d e w v s t r q ws (rest, items, f, m, made) (later, others, g, n, done) =
+    let same : later ≡ rest = cc in
+    let list = one_list items others rest m (subst (AreSpellings others) same n) in
+    one_run d e w v s t r q others (subst (MakeRun d w s r) list made) done
+
+same_commands : (c c' : Command) (ws : List (List ℕ)) → kind_of c ≡ kind_of c' → InRange c → InRange c' → Spells c ws → Spells c' ws → c ≡ c'
+same_commands (Principal d) (Principal e) ws k r q f g = ap (λ n. Principal n) (same_dimension d e r q (cc))
+same_commands (Check d) (Check e) ws k r q f g = ap (λ n. Check n) (same_dimension d e r q (cc))
+same_commands (Summary d true) (Summary e true) ws k r q f g = ap (λ n. Summary n true) (same_dimension d e r q (cc))
+same_commands (Summary d false) (Summary e false) ws k r q f g = ap (λ n. Summary n false) (same_dimension d e r q (cc))
+same_commands (Summary d true) (Summary e false) ws k r q f g = absurd (cc)
+same_commands (Summary d false) (Summary e true) ws k r q f g = absurd (cc)
+same_commands (Run d w s r) (Run e v t q) ws k range inside f g = same_runs d e w v s t r q ws f g
+same_commands _ _ ws k r q f g = absurd (cc)
 
 -- words spell one command at most
 pub one_command : (c c' : Command) (ws : List (List ℕ)) → InRange c → InRange c' → Spells c ws → Spells c' ws → c ≡ c'
-one_command (Principal d) (Principal d') ws r r' e f = ap (λ n. Principal n) (same_dimension d d' r r' (cc))
-one_command (Principal d) (Summary d') ws r r' e f = absurd (cc)
-one_command (Summary d) (Principal d') ws r r' e f = absurd (cc)
-one_command (Summary d) (Summary d') ws r r' e f = ap (λ n. Summary n) (same_dimension d d' r r' (cc))
-one_command (Principal d) (Run d' s) ws r r' e f = absurd (no_run d' s (codes "principal") (decimal d) (λ g. cc) (subst (Spells (Run d' s)) e f))
-one_command (Summary d) (Run d' s) ws r r' e f = absurd (no_run d' s (codes "summary") (decimal d) (λ g. cc) (subst (Spells (Run d' s)) e f))
-one_command (Run d s) (Principal d') ws r r' e f = absurd (no_run d s (codes "principal") (decimal d') (λ g. cc) (subst (Spells (Run d s)) f e))
-one_command (Run d s) (Summary d') ws r r' e f = absurd (no_run d s (codes "summary") (decimal d') (λ g. cc) (subst (Spells (Run d s)) f e))
-one_command (Run d s) (Run d' s') ws r r' e f = one_run d d' s s' ws r r' e f
+one_command c c' ws r q f g =
+    let (rest, e) = first_word c ws f in
+    let (later, h) = first_word c' ws g in
+    same_commands c c' ws (same_kind (kind_of c) (kind_of c') (cc)) r q f g
 
 -- the limit on steps is that of dimension 5 in each dimension of a command
 pub one_limit : (d : ℕ) → IsDimension d → step_limit d ≡ most_steps

@@ -1,4 +1,10 @@
-pub mod Faults
+pub mod Decimals
+pub mod Ends
 pub mod Fronts
+pub mod Goings
+pub mod Joins
 pub mod Laws
-pub mod Numbers
+pub mod Spellings
+pub mod Steps
+pub mod Tails
+pub mod Walks

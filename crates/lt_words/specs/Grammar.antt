@@ -1,38 +1,138 @@
 -- The words of the command line.
-use Rattle.std.specs.Prelude.{◌≡◌, ℕ, ◌+◌, ◌<◌, ◌≤◌, List, [], ◌∷◌, ◌++◌, ◌⊎◌, length, take, map, codes}
+use Rattle.std.specs.Prelude.{◌≡◌, ℕ, suc, ◌+◌, ◌^◌, ◌<◌, ◌≤◌, Bool, true, false, cond, List, [], ◌∷◌, ◌++◌, ◌⊎◌, length, take, map, codes}
 use Rattle.std.specs.Fmt.{decimal}
 use Rattle.lt_model.specs.Limits.{step_limit}
 use Rattle.lt_words.specs.declared.words.Command.{Command}
-use Rattle.lt_words.specs.declared.words.Command.TheVariants.{Principal, Summary, Run}
-use Rattle.lt_words.specs.declared.words.Kind.{Kind}
-use Rattle.lt_words.specs.declared.words.Kind.TheVariants as kind
+use Rattle.lt_words.specs.declared.words.Command.TheVariants.{Principal, Summary, Check, Run}
 use Rattle.lt_words.specs.declared.words.WordsError.{WordsError}
 use Rattle.lt_words.specs.declared.words.WordsError.TheVariants.{Fault}
+use Rattle.lt_words.specs.declared.options.Setting.{Setting}
+use Rattle.lt_words.specs.declared.options.Setting.TheVariants.{Workers, Steps}
 use denote.Ref.{Bor}
 
 -- the bytes of each word
 abbrev pub texts : List (Bor (List ℕ)) → List (List ℕ)
 texts ws = map (λ w. w.now) ws
 
+-- ---- numbers
+
 -- a dimension that a command takes
 abbrev pub IsDimension : ℕ → Type 0
 IsDimension d = (2 ≤ d) × (d ≤ 5)
+
+-- the greatest number of workers of a run
+abbrev pub most_workers : ℕ
+most_workers = 64
 
 -- the greatest number of steps of a run, and the number where none is named
 abbrev pub most_steps : ℕ
 most_steps = step_limit 5
 
+-- a number that an option of a run takes
+abbrev pub IsInSetting : Setting → ℕ → Type 0
+IsInSetting Workers n = (1 ≤ n) × (n ≤ most_workers)
+IsInSetting Steps n = n ≤ most_steps
+
 -- a command's numbers are in the ranges of its words
 abbrev pub InRange : Command → Type 0
 InRange (Principal d) = IsDimension d
-InRange (Summary d) = IsDimension d
-InRange (Run d steps) = IsDimension d × (steps ≤ most_steps)
+InRange (Summary d resume) = IsDimension d
+InRange (Check d) = IsDimension d
+InRange (Run d workers steps resume) = IsDimension d × IsInSetting Workers workers × IsInSetting Steps steps
+
+-- ---- what stands behind the word `run`
+
+-- one thing that stands there
+pub data Item : Type 0 where
+  dimension : ℕ → Item
+  setting : Setting → ℕ → Item
+  resuming : Item
+  ending : Item
+
+-- the word of an option that takes a number
+abbrev pub setting_word : Setting → List ℕ
+setting_word Workers = codes "--workers"
+setting_word Steps = codes "--steps"
+
+-- the words of an option with its number, which is the next word or is joined to the option by `=`
+abbrev pub IsSetting : Setting → ℕ → List (List ℕ) → Type 0
+IsSetting s n ws =
+    (ws ≡ setting_word s ∷ decimal n ∷ []) ⊎ (ws ≡ (setting_word s ++ codes "=" ++ decimal n) ∷ [])
+
+-- words that spell an item
+abbrev pub IsSpelling : Item → List (List ℕ) → Type 0
+IsSpelling (dimension d) ws = IsDimension d × (ws ≡ decimal d ∷ [])
+IsSpelling (setting s n) ws = IsInSetting s n × IsSetting s n ws
+IsSpelling resuming ws = ws ≡ codes "--resume" ∷ []
+IsSpelling ending ws = ws ≡ codes "--" ∷ []
+
+-- the words spell the items, one after the other
+abbrev pub AreSpellings : List Item → List (List ℕ) → Type 0
+AreSpellings [] ws = ws ≡ []
+AreSpellings (i ∷ items) ws =
+    (own : List (List ℕ)) × (rest : List (List ℕ)) × (ws ≡ own ++ rest) × IsSpelling i own × AreSpellings items rest
+
+-- the dimensions among the items
+abbrev pub dimensions : List Item → List ℕ
+dimensions [] = []
+dimensions (dimension d ∷ items) = d ∷ dimensions items
+dimensions (setting s n ∷ items) = dimensions items
+dimensions (resuming ∷ items) = dimensions items
+dimensions (ending ∷ items) = dimensions items
+
+-- the numbers that an option has among the items
+abbrev pub numbers : Setting → List Item → List ℕ
+numbers s [] = []
+numbers s (dimension d ∷ items) = numbers s items
+numbers Workers (setting Workers n ∷ items) = n ∷ numbers Workers items
+numbers Workers (setting Steps n ∷ items) = numbers Workers items
+numbers Steps (setting Workers n ∷ items) = numbers Steps items
+numbers Steps (setting Steps n ∷ items) = n ∷ numbers Steps items
+numbers s (resuming ∷ items) = numbers s items
+numbers s (ending ∷ items) = numbers s items
+
+-- how often `--resume` stands among the items
+abbrev pub resumes : List Item → ℕ
+resumes [] = 0
+resumes (dimension d ∷ items) = resumes items
+resumes (setting s n ∷ items) = resumes items
+resumes (resuming ∷ items) = suc (resumes items)
+resumes (ending ∷ items) = resumes items
+
+-- how often a flag stands, which stands at most once
+abbrev pub times : Bool → ℕ
+times true = 1
+times false = 0
+
+-- an option that stands once has its number, and one that doesn't stand the default
+abbrev pub IsChosen : ℕ → List ℕ → ℕ → Type 0
+IsChosen default named n = (named ≡ n ∷ []) ⊎ ((named ≡ []) × (n ≡ default))
+
+-- behind each `--` stands nothing but a dimension
+abbrev pub AreEnded : List Item → Type 0
+AreEnded items =
+    (before after : List Item) → items ≡ before ++ ending ∷ after →
+    (after ≡ []) ⊎ ((d : ℕ) × (after ≡ dimension d ∷ []))
+
+-- The items make this run: the dimension stands once, each option at most once, and behind `--`, which
+-- stands at most once then, there is nothing but the dimension.
+pub record MakeRun (d workers steps : ℕ) (resume : Bool) (items : List Item) : Type 0 where
+  pub one_dimension : dimensions items ≡ d ∷ []
+  pub chosen_workers : IsChosen 1 (numbers Workers items) workers
+  pub chosen_steps : IsChosen most_steps (numbers Steps items) steps
+  pub resumed : resumes items ≡ times resume
+  pub ended : AreEnded items
+
+-- ---- commands
 
 -- the words are a spelling of the command
 abbrev pub Spells : Command → List (List ℕ) → Type 0
 Spells (Principal d) ws = ws ≡ codes "principal" ∷ decimal d ∷ []
-Spells (Summary d) ws = ws ≡ codes "summary" ∷ decimal d ∷ []
-Spells (Run d steps) ws = (ws ≡ codes "run" ∷ decimal d ∷ codes "--steps" ∷ decimal steps ∷ []) ⊎ ((steps ≡ most_steps) × (ws ≡ codes "run" ∷ decimal d ∷ []))
+Spells (Summary d resume) ws = ws ≡ codes "summary" ∷ decimal d ∷ cond resume (codes "--resume" ∷ []) []
+Spells (Check d) ws = ws ≡ codes "check" ∷ decimal d ∷ []
+Spells (Run d workers steps resume) ws =
+    (rest : List (List ℕ)) × (items : List Item) × (ws ≡ codes "run" ∷ rest) × AreSpellings items rest ×
+    MakeRun d workers steps resume items
 
 -- the words are those of a command
 abbrev pub IsAccepted : List (List ℕ) → Type 0
@@ -53,13 +153,3 @@ pub record FaultAt (ws : List (List ℕ)) (place : ℕ) : Type 0 where
 -- the place that a refusal names
 abbrev pub place_of : WordsError → ℕ
 place_of (Fault place) = place
-
--- the word that tells the kind of a command
-abbrev pub kind_word : Kind → List ℕ
-kind_word kind.Principal = codes "principal"
-kind_word kind.Summary = codes "summary"
-kind_word kind.Run = codes "run"
-
--- the words begin with these
-abbrev pub HasFront : List (List ℕ) → List (List ℕ) → Type 0
-HasFront ws front = (rest : List (List ℕ)) × (ws ≡ front ++ rest)

@@ -1,6 +1,9 @@
 //! The words of the command line, read without memory.
 #![tactic(auto)]
 
+mod fixed;
+mod numbers;
+mod options;
 mod words;
 
 pub use words::{Command, WordsError, faults_are_exact, read_words};

@@ -1,20 +1,37 @@
-ghost use Rattle.std.specs.Prelude.{◌≡◌, ◌≢◌, ◌<◌, ◌≤◌, [], ◌∷◌, List, ℕ, length, get_or, codes, IsTrue, ◌↔◌, IfOk, IfErr, IfSome, IfNone};
-ghost use Rattle.std.specs.Fmt.{decimal};
-ghost use Rattle.lt_words.specs.Grammar.{texts, IsDimension, InRange, Spells, FaultAt, HasFront, most_steps, place_of, kind_word};
+ghost use Rattle.std.specs.Prelude.{◌≡◌, IfOk, IfErr, IfSome, IfNone};
+ghost use Rattle.lt_words.specs.Grammar.{texts, InRange, Spells, FaultAt, place_of};
+ghost use Rattle.lt_words.specs.Parts.{kind_word};
 ghost use Rattle.lt_words.specs.Laws.{EveryFaultHasOnePlace, NoCommandHasAFault, WordsSpellOneCommand, StepLimitsAreOne};
 
+use crate::fixed::{read_check, read_principal, read_summary};
+use crate::options::read_run;
 use thiserror::Error;
 
-/// What the program is asked to do.
+/// What the program is asked to do. Each dimension `d` is 2 to 5.
 #[derive(Clone, Copy, Debug, PartialEq, Eq, Drop)]
 pub enum Command {
-    /// `principal D`: print the principal type of dimension `d`, 2 to 5.
-    Principal { d: u8 },
-    /// `summary D`: print the counts of the starting atlas of dimension `d`, 2 to 5.
-    Summary { d: u8 },
-    /// `run D --steps B`: enumerate in dimension `d`, 2 to 5. `steps` is the number of positions of the queue that
-    /// are settled, 0 to 100,000, and `run D` alone names the greatest.
-    Run { d: u8, steps: u64 },
+    /// `principal D`: print the principal type of dimension `d`.
+    Principal {
+        d: u8,
+    },
+    /// `summary D`: print the counts of the starting atlas, or with `--resume` of the atlas that is read.
+    Summary {
+        d: u8,
+        resume: bool,
+    },
+    /// `check D`: read an atlas with every check.
+    Check {
+        d: u8,
+    },
+    /// `run D --workers N --steps B --resume`: enumerate, from the starting atlas or with `--resume` from the atlas
+    /// that is read. `workers` is 1 to 64, and 1 where none is named. `steps` is the number of positions of the
+    /// queue that are settled, 0 to 100,000, and the greatest where none is named.
+    Run {
+        d: u8,
+        workers: u32,
+        steps: u64,
+        resume: bool,
+    },
 }
 
 /// Why words are no command.
@@ -31,17 +48,8 @@ pub enum WordsError {
 enum Kind {
     Principal,
     Summary,
+    Check,
     Run,
-}
-
-/// The greatest number of steps, which `run D` alone takes.
-const MOST_STEPS: u64 = 100_000;
-
-fn word_at<'a>(words: &[&'a str], i: usize) -> &'a str
-    requires { i < length words.now }
-    ensures { result.now ≡ get_or (texts words.now) i [] }
-{
-    words[i]
 }
 
 /// The kind that a word tells.
@@ -49,129 +57,12 @@ fn kind_of(word: &str) -> Option<Kind>
     ensures found { IfSome result (λ kind. word.now ≡ kind_word kind) }
     ensures none { IfNone result ((kind : Kind) → word.now ≡ kind_word kind → ⊥) }
 {
-    if word == "principal" {
-        Some(Kind::Principal)
-    } else if word == "summary" {
-        Some(Kind::Summary)
-    } else if word == "run" {
-        Some(Kind::Run)
-    } else {
-        None
-    }
-}
-
-/// The dimension that a word spells.
-fn dimension_of(word: &str) -> Option<u8>
-    ensures found { IfSome result (λ d. IsDimension d × (word.now ≡ decimal d)) }
-    ensures none { IfNone result ((d : ℕ) → IsDimension d → word.now ≡ decimal d → ⊥) }
-{
-    match word.as_bytes() {
-        [digit @ b'2'..=b'5'] => Some(*digit - b'0'),
+    match word {
+        "principal" => Some(Kind::Principal),
+        "summary" => Some(Kind::Summary),
+        "check" => Some(Kind::Check),
+        "run" => Some(Kind::Run),
         _ => None,
-    }
-}
-
-/// Whether a word begins neither with a plus nor with a zero before another byte.
-fn is_bare(word: &str) -> bool
-    ensures { IsTrue result ↔ ((get_or word.now 0 0 ≢ 43) × (get_or word.now 0 0 ≡ 48 → length word.now ≡ 1)) }
-{
-    match word.as_bytes() {
-        [b'+', ..] => false,
-        [b'0', rest @ ..] => rest.is_empty(),
-        _ => true,
-    }
-}
-
-/// The number of steps that a word spells. `parse` takes a plus and zeros in front too.
-fn steps_of(word: &str) -> Option<u64>
-    ensures found { IfSome result (λ steps. (steps ≤ most_steps) × (word.now ≡ decimal steps)) }
-    ensures none { IfNone result ((steps : ℕ) → steps ≤ most_steps → word.now ≡ decimal steps → ⊥) }
-{
-    if !is_bare(word) {
-        return None;
-    }
-    match word.parse::<u64>() {
-        Ok(steps) if steps <= MOST_STEPS => Some(steps),
-        _ => None,
-    }
-}
-
-/// The command of a kind and a dimension, with no further word.
-fn command_of(kind: Kind, d: u8) -> Command
-    requires { IsDimension d }
-    ensures range { InRange result }
-    ensures words { Spells result (kind_word kind ∷ decimal d ∷ []) }
-{
-    match kind {
-        Kind::Principal => Command::Principal { d },
-        Kind::Summary => Command::Summary { d },
-        Kind::Run => Command::Run {
-            d,
-            steps: MOST_STEPS,
-        },
-    }
-}
-
-/// The command `run`, with the number of steps to come.
-fn read_steps(words: &[&str], d: u8) -> Result<Command, WordsError>
-    requires dimension { IsDimension d }
-    requires front { HasFront (texts words.now) (codes "run" ∷ decimal d ∷ codes "--steps" ∷ []) }
-    ensures command { IfOk result (λ c. InRange c × Spells c (texts words.now)) }
-    ensures fault { IfErr result (λ e. FaultAt (texts words.now) (place_of e)) }
-{
-    if words.len() == 3 {
-        return Err(WordsError::Fault { place: 3 });
-    }
-    match steps_of(word_at(words, 3)) {
-        None => Err(WordsError::Fault { place: 3 }),
-        Some(steps) => {
-            if words.len() == 4 {
-                Ok(Command::Run { d, steps })
-            } else {
-                Err(WordsError::Fault { place: 4 })
-            }
-        }
-    }
-}
-
-/// The command of a kind and a dimension, with an option to come.
-fn read_option(words: &[&str], kind: Kind, d: u8) -> Result<Command, WordsError>
-    requires dimension { IsDimension d }
-    requires front { HasFront (texts words.now) (kind_word kind ∷ decimal d ∷ []) }
-    requires more { 2 < length words.now }
-    ensures command { IfOk result (λ c. InRange c × Spells c (texts words.now)) }
-    ensures fault { IfErr result (λ e. FaultAt (texts words.now) (place_of e)) }
-{
-    match kind {
-        Kind::Principal | Kind::Summary => Err(WordsError::Fault { place: 2 }),
-        Kind::Run => {
-            if word_at(words, 2) == "--steps" {
-                read_steps(words, d)
-            } else {
-                Err(WordsError::Fault { place: 2 })
-            }
-        }
-    }
-}
-
-/// The command of a kind, with the dimension to come.
-fn read_dimension(words: &[&str], kind: Kind) -> Result<Command, WordsError>
-    requires { HasFront (texts words.now) (kind_word kind ∷ []) }
-    ensures command { IfOk result (λ c. InRange c × Spells c (texts words.now)) }
-    ensures fault { IfErr result (λ e. FaultAt (texts words.now) (place_of e)) }
-{
-    if words.len() == 1 {
-        return Err(WordsError::Fault { place: 1 });
-    }
-    match dimension_of(word_at(words, 1)) {
-        None => Err(WordsError::Fault { place: 1 }),
-        Some(d) => {
-            if words.len() == 2 {
-                Ok(command_of(kind, d))
-            } else {
-                read_option(words, kind, d)
-            }
-        }
     }
 }
 
@@ -184,9 +75,12 @@ pub fn read_words(words: &[&str]) -> Result<Command, WordsError>
     if words.is_empty() {
         return Err(WordsError::Fault { place: 0 });
     }
-    match kind_of(word_at(words, 0)) {
+    match kind_of(words[0]) {
         None => Err(WordsError::Fault { place: 0 }),
-        Some(kind) => read_dimension(words, kind),
+        Some(Kind::Principal) => read_principal(words),
+        Some(Kind::Summary) => read_summary(words),
+        Some(Kind::Check) => read_check(words),
+        Some(Kind::Run) => read_run(words),
     }
 }
 

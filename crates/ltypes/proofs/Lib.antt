@@ -1,5 +1,8 @@
-pub mod Outputs
 pub mod Closed
+pub mod Counts
 pub mod Ending
-pub mod Finishing
+pub mod Outputs
+pub mod Resuming
 pub mod SameFacets
+pub mod Started
+pub mod Summed

@@ -1,18 +1,40 @@
 -- Laws on what commands write.
-use Rattle.std.specs.Prelude.{◌≡◌, ◌≤◌, ℕ, List, length}
+use Rattle.std.specs.Prelude.{◌≡◌, ◌≤◌, ℕ, List, Bool, length}
 use Rattle.lt_model.specs.Atlases.{Atlas}
+use Rattle.lt_model.specs.Limits.{input_limit}
 use Rattle.lt_model.specs.RightAtlases.{IsClosedAtlas}
+use Rattle.lt_core.specs.Starts.{IsStarting}
 use Rattle.lt_crew.specs.Laws.{MeetsNoLimit}
-use Rattle.ltypes.specs.Outputs.{IsPrincipalText, IsSummary}
-use Rattle.ltypes.specs.Runs.{IsWholeRun}
+use Rattle.lt_crew.specs.Runs.{IsSettledBelow}
+use Rattle.lt_read.specs.Reading.{IsRead}
+use Rattle.lt_read.specs.Laws.{IsResumed}
+use Rattle.lt_text.specs.Texts.{atlas_text}
+use Rattle.lt_words.specs.Grammar.{IsDimension}
+use Rattle.ltypes.specs.Changes.{Change}
+use Rattle.ltypes.specs.Outputs.{IsPrincipalText}
+use Rattle.ltypes.specs.Summaries.{summary_text, check_text}
+use Rattle.ltypes.specs.Runs.{IsRunHere}
 
-abbrev pub IsOneText : (List ℕ → Type 0) → Type 0
-IsOneText IsText = (x y : List ℕ) → IsText x → IsText y → x ≡ y
+-- in each dimension there is one principal triangulation to print
+abbrev pub OnePrincipalText : Type 0
+OnePrincipalText = (d : ℕ) (x y : List ℕ) → IsPrincipalText d x → IsPrincipalText d y → x ≡ y
 
--- in each dimension there is one principal triangulation to print, and one summary
-abbrev pub EachOutputIsOne : Type 0
-EachOutputIsOne = (d : ℕ) → IsOneText (IsPrincipalText d) × IsOneText (IsSummary d)
+-- and one summary of the starting atlas
+abbrev pub OneStartingSummary : Type 0
+OneStartingSummary = (d : ℕ) (a b : Atlas) → IsStarting d a → IsStarting d b → summary_text a ≡ summary_text b
 
--- a whole run that met no triangulation above a limit, and whose queue is not longer than the step limit, ends with every facet crossed
+-- the bytes that are read have one summary, and one line of totals
+abbrev pub OneSummaryOfBytes : Type 0
+OneSummaryOfBytes = (d : ℕ) (bytes : List ℕ) (a b : Atlas) → IsRead d bytes a → IsRead d bytes b → (summary_text a ≡ summary_text b) × (check_text a ≡ check_text b)
+
+-- a run that came to its end, met no triangulation above a limit, and whose queue is not longer than the step limit, ends with every facet crossed
 abbrev pub NarrowRunsFinish : Type 0
-NarrowRunsFinish = (d steps : ℕ) (a : Atlas) → IsWholeRun d steps a → length a.queue ≤ steps → MeetsNoLimit a → IsClosedAtlas a
+NarrowRunsFinish =
+    (d workers steps : ℕ) (resume : Bool) (source : Change) (a : Atlas) → IsRunHere d workers steps resume source a → IsSettledBelow steps a
+    → length a.queue ≤ steps → MeetsNoLimit a → IsClosedAtlas a
+
+-- the text of an atlas of a run can be resumed: it is accepted, and read as the atlas with its entries and crosses
+abbrev pub RunsAreResumed : Type 0
+RunsAreResumed =
+    (d workers steps : ℕ) (resume : Bool) (source : Change) (a : Atlas) → IsDimension d → IsRunHere d workers steps resume source a
+    → length a.entries ≤ 100001 → length (atlas_text a) ≤ input_limit d → IsResumed a

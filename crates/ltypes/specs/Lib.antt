@@ -1,4 +1,6 @@
 pub mod Texts
+pub mod Changes
+pub mod Beginnings
 pub mod Summaries
 pub mod Outputs
 pub mod Runs

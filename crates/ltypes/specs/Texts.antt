@@ -3,7 +3,9 @@ use Rattle.std.specs.Prelude.{ℕ, ℤ, pos, List, [], ◌∷◌, ◌++◌, code
 use Rattle.lt_lines.specs.Lines.{behind_spaces, line}
 use Rattle.lt_text.specs.Texts.{triangulation_text}
 use Rattle.ltypes.specs.declared.status.Cause.{Cause}
-use Rattle.ltypes.specs.declared.status.Cause.TheVariants.{Finished, Done, Unfinished, Words, Memory, WriteFault}
+use Rattle.ltypes.specs.declared.status.Cause.TheVariants.{Finished, Done, Unfinished, Words, Refused, Memory, ReadFault, WriteFault}
+use Rattle.lt_read.specs.declared.refusals.Refusal.{Refusal}
+use Rattle.lt_read.specs.declared.refusals.Refusal.TheVariants.{TooLong, Syntax, OtherDimension, NotPrincipal, BadOrigin, BadSimplices, BadCone, BadCross, Twin}
 
 -- the dimension, the form, the number of classes, and the classes
 abbrev pub type_text : ℕ → List ℤ → List (List (List ℤ)) → List ℕ
@@ -19,12 +21,34 @@ code_of Finished = 0
 code_of Done = 0
 code_of (Unfinished s o) = 1
 code_of (Words place) = 2
+code_of (Refused refusal) = 3
 code_of Memory = 4
+code_of ReadFault = 5
 code_of WriteFault = 6
 
 -- the numbers of wide and heavy marks, and of open ones
 abbrev pub unfinished_line : ℕ → ℕ → List ℕ
 unfinished_line s o = named (codes "unfinished: stuck") s ++ line (codes " undecided") (pos o ∷ [])
+
+-- a line of a word and two counts
+abbrev pub pair_text : List ℕ → ℕ → ℕ → List ℕ
+pair_text word n m = named word n ++ line [] (pos m ∷ [])
+
+-- two equivalent entries, and the matrix that carries the second onto the first
+abbrev pub twin_text : ℕ → ℕ → List ℤ → List ℕ
+twin_text i j u = named (codes "refused: twin") i ++ named [] j ++ line [] u
+
+-- the line of a refusal
+abbrev pub refusal_text : Refusal → List ℕ
+refusal_text TooLong = line (codes "refused: too long") []
+refusal_text (Syntax n) = line (codes "refused: syntax line") (pos n ∷ [])
+refusal_text (OtherDimension found) = line (codes "refused: other dimension") (pos found ∷ [])
+refusal_text NotPrincipal = line (codes "refused: not principal") []
+refusal_text (BadOrigin k) = line (codes "refused: origin") (pos k ∷ [])
+refusal_text (BadSimplices k) = line (codes "refused: simplices") (pos k ∷ [])
+refusal_text (BadCone k row) = pair_text (codes "refused: cone") k row
+refusal_text (BadCross k facet) = pair_text (codes "refused: cross") k facet
+refusal_text (Twin i j matrix) = twin_text i j matrix
 
 -- the line of a cause; Finished and Done have none
 abbrev pub err_text : Cause → List ℕ
@@ -32,5 +56,7 @@ err_text Finished = []
 err_text Done = []
 err_text (Unfinished s o) = unfinished_line s o
 err_text (Words place) = line (codes "words: place") (pos place ∷ [])
+err_text (Refused refusal) = refusal_text refusal
 err_text Memory = line (codes "memory") []
+err_text ReadFault = line (codes "read fault") []
 err_text WriteFault = line (codes "write fault") []

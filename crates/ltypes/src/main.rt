@@ -1,16 +1,21 @@
 //! Delaunay triangulations of the integer points, one type after another.
 #![tactic(auto)]
 
+mod beginning;
 mod command;
 mod printed;
+mod reading;
+mod refused;
 mod run;
 mod status;
 mod summary;
+mod totals;
 
-pub use command::{ltypes, outputs_are_exact, principal_command, summary_command};
+pub use command::{ltypes, outputs_are_exact, principal_command};
 use lt_crew::OpenGate;
 use lt_io::{LineSink, StdSink, StdSource};
-pub use run::{narrow_runs_finish, run_alone_command};
+pub use reading::{check_command, summary_command};
+pub use run::{narrow_runs_finish, run_alone_command, run_command, runs_are_resumed};
 pub use status::{Cause, Status};
 use std::env;
 use std::io::ErrorKind;
@@ -58,5 +63,9 @@ fn main(rt: HostRuntime) -> ExitCode {
     ExitCode::from(status.code)
 }
 
+#[cfg(test)]
+mod crew_tests;
+#[cfg(test)]
+mod read_tests;
 #[cfg(test)]
 mod tests;

@@ -1,52 +1,53 @@
-//! The counts of the starting atlas.
+//! The summary of an atlas.
 
-ghost use Rattle.std.specs.Prelude.{◌≡◌, ◌<◌, ◌≤◌, ℕ, [], ◌∷◌, length, pos, IfOk};
+ghost use Rattle.std.specs.Prelude.{◌≡◌, ◌<◌, ◌≤◌, ℕ, [], length, pos, IfOk};
 ghost use Rattle.std.specs.List.{All};
+ghost use Rattle.lt_core.specs.Marks.{entry_of, mark_of};
 ghost use Rattle.lt_io.specs.Causes.{HasCause};
 ghost use Rattle.lt_io.specs.Bytes.{Wrote};
-ghost use Rattle.lt_core.specs.Starts.{IsStarting};
-ghost use Rattle.lt_model.specs.Atlases.{entry_at};
 ghost use Rattle.lt_model.specs.Cones.{normals as normals_of};
-ghost use Rattle.lt_model.specs.Limits.{weight as weight_of};
-ghost use Rattle.lt_words.specs.Grammar.{IsDimension};
-ghost use Rattle.ltypes.specs.Summaries.{columns, entry_line, last_line, entry_summary};
+ghost use Rattle.std.specs.Prelude.{map};
+ghost use Rattle.lt_tableau.specs.Errors.{AreOfDimension};
+ghost use Rattle.ltypes.specs.Summaries.{columns, entry_line, entry_summary, entry_summaries, summary_text, weight_of, entry_weights};
 
-use crate::printed::write_named;
-use lt_core::Atlas;
+use crate::totals::{crossed_in, undecided_in, write_totals};
+use lt_core::{Atlas, Entry, Mark};
 use lt_io::{Failed, Sink};
-use lt_lines::{write_count, write_line, write_right};
-use lt_regulator::regulators;
+use lt_lattice::Normal;
+use lt_lines::{write_line, write_right};
+use lt_lp::Row;
 use lt_tableau::weight;
-use std::alloc::Global;
+use std::alloc::{AllocError, Global};
 
-/// Why there is no starting atlas: memory was refused.
-#[derive(Debug, Drop)]
-pub struct NoStart;
-
-/// The starting atlas with the weight of its entry.
-#[derive(Drop)]
-pub struct Start {
-    atlas: Atlas,
-    /// The one number at the end of the type's line.
-    weight: [i128; 1],
+/// The normals of rows.
+fn normals(alloc: Global, rows: &[Row]) -> Result<Vec<Normal>, AllocError>
+    ensures { IfOk result (λ v. v.items ≡ normals_of rows.now) }
+{
+    let mut all = Vec::new(alloc);
+    for row in rows {
+        all.push(row.normal.copy())?;
+    }
+    Ok(all)
 }
 
-impl Start {
-    /// The starting atlas of dimension `d`, 2 to 5.
-    pub fn of(alloc: Global, d: u8) -> Result<Start, NoStart>
-        requires { IsDimension d }
-        ensures atlas { IfOk result (λ s. IsStarting d s.atlas) }
-        ensures weight { IfOk result (λ s. s.weight ≡ pos (weight_of d (normals_of (entry_at s.atlas.entries 0).cone.rows)) ∷ []) }
-    {
-        let Ok(atlas) = Atlas::start(alloc, d) else {
-            return Err(NoStart);
-        };
-        let Ok(normals) = regulators(alloc, &atlas.entry(0).triangulation) else {
-            return Err(NoStart);
-        };
-        let weight = [weight(normals.as_slice())];
-        Ok(Start { atlas, weight })
+/// The weight of an entry: that of the regulators that its cone lists.
+fn weight_of_entry(alloc: Global, entry: &Entry) -> Result<i128, AllocError>
+    ensures { IfOk result (λ w. (d : ℕ) → AreOfDimension d (normals_of (entry_of entry.now).cone.rows) → w ≡ pos (weight_of d (entry_of entry.now))) }
+{
+    let normals = normals(alloc, &entry.cone.rows)?;
+    Ok(weight(&normals))
+}
+
+/// The weights of the entries of an atlas.
+pub fn weights_of(alloc: Global, atlas: &Atlas) -> Result<Vec<i128>, AllocError>
+    ensures { IfOk result (λ v. v.items ≡ entry_weights atlas.now) }
+{
+    atlas.keeps();
+    let mut all = Vec::new(alloc);
+    for k in 0..atlas.entries() {
+        all.push(weight_of_entry(alloc, atlas.entry(k))?)?;
     }
+    Ok(all)
 }
 
 /// Writes numbers, each right in so many places.
@@ -61,61 +62,84 @@ fn write_columns<K: Sink>(out: &mut K, numbers: &[(usize, u64)]) -> Result<(), F
     Ok(())
 }
 
-/// Writes the line of the entry, of which no facet is crossed.
-fn write_entry<K: Sink>(
-    out: &mut K,
+/// The counts of the line of an entry: its number, its classes, regulators and facets, and its marks that are crossed and open.
+#[derive(Clone, Copy, Drop)]
+struct Counts {
+    entry: u64,
     classes: u64,
     regulators: u64,
     facets: u64,
-    weight: &[i128],
-) -> Result<(), Failed>
-    ensures bytes { (w : ℕ) → weight.now ≡ pos w ∷ [] → Wrote (K.held out.old) (K.held out.new) result (entry_line 0 classes regulators facets 0 facets w) }
+    crossed: u64,
+    undecided: u64,
+}
+
+/// Writes the line of an entry.
+fn write_counts<K: Sink>(out: &mut K, counts: &Counts, weight: i128) -> Result<(), Failed>
+    ensures bytes { (w : ℕ) → weight ≡ pos w → Wrote (K.held out.old) (K.held out.new) result
+        (entry_line counts.now.entry counts.now.classes counts.now.regulators counts.now.facets counts.now.crossed counts.now.undecided w) }
     ensures cause { HasCause (K.faults out.old) (K.faults out.new) result }
 {
     write_columns(
         out,
         &[
-            (6, 0),
-            (10, classes),
-            (11, regulators),
-            (7, facets),
-            (8, 0),
-            (8, facets),
+            (6, counts.entry),
+            (10, counts.classes),
+            (11, counts.regulators),
+            (7, counts.facets),
+            (8, counts.crossed),
+            (8, counts.undecided),
         ],
     )?;
-    write_line(out, b"", weight)
+    write_line(out, b"", &[weight])
 }
 
-/// Writes the totals of one entry, of which no facet is crossed.
-fn write_last<K: Sink>(out: &mut K, facets: u64) -> Result<(), Failed>
-    ensures bytes { Wrote (K.held out.old) (K.held out.new) result (last_line 1 facets 0 facets) }
+/// Writes the line of entry `k`, whose weight this is.
+fn write_entry<K: Sink>(
+    out: &mut K,
+    k: u32,
+    entry: &Entry,
+    marks: &[Mark],
+    weight: i128,
+) -> Result<(), Failed>
+    ensures bytes { (d : ℕ) → weight ≡ pos (weight_of d (entry_of entry.now)) → Wrote (K.held out.old) (K.held out.new) result
+        (entry_summary d k (entry_of entry.now) (map mark_of marks.now)) }
     ensures cause { HasCause (K.faults out.old) (K.faults out.new) result }
 {
-    write_named(out, b"types", 1)?;
-    write_named(out, b" facets", facets)?;
-    write_named(out, b" crossed", 0)?;
-    write_count(out, b" undecided", facets)
+    let counts = Counts {
+        entry: k as u64,
+        classes: entry.triangulation.len() as u64,
+        regulators: entry.cone.regulators() as u64,
+        facets: entry.cone.facets() as u64,
+        crossed: crossed_in(marks),
+        undecided: undecided_in(marks),
+    };
+    write_counts(out, &counts, weight)
 }
 
-/// Writes the summary of the atlas that has the principal type alone.
-pub fn write_summary<K: Sink>(out: &mut K, start: &Start) -> Result<(), Failed>
-    requires { 0 < length start.now.atlas.entries }
-    ensures bytes { (w : ℕ) → start.now.weight ≡ pos w ∷ [] → Wrote (K.held out.old) (K.held out.new) result (entry_summary (entry_at start.now.atlas.entries 0) w) }
+/// Writes the lines of all entries.
+fn write_entries<K: Sink>(out: &mut K, atlas: &Atlas, weights: &[i128]) -> Result<(), Failed>
+    requires { weights.now ≡ entry_weights atlas.now }
+    ensures bytes { Wrote (K.held out.old) (K.held out.new) result (entry_summaries atlas.now (length atlas.now.entries)) }
     ensures cause { HasCause (K.faults out.old) (K.faults out.new) result }
 {
-    let entry = start.atlas.entry(0);
-    let facets = entry.cone.facets() as u64;
+    atlas.keeps();
+    for k in 0..atlas.entries() {
+        write_entry(out, k, atlas.entry(k), atlas.marks(k), weights[k as usize])?;
+    }
+    Ok(())
+}
+
+/// Writes the summary of an atlas, whose weights these are.
+pub fn write_summary<K: Sink>(out: &mut K, atlas: &Atlas, weights: &[i128]) -> Result<(), Failed>
+    requires { weights.now ≡ entry_weights atlas.now }
+    ensures bytes { Wrote (K.held out.old) (K.held out.new) result (summary_text atlas.now) }
+    ensures cause { HasCause (K.faults out.old) (K.faults out.new) result }
+{
     write_line(
         out,
         b"  type simplices regulators facets crossed    open weight",
         &[],
     )?;
-    write_entry(
-        out,
-        entry.triangulation.len() as u64,
-        entry.cone.regulators() as u64,
-        facets,
-        &start.weight,
-    )?;
-    write_last(out, facets)
+    write_entries(out, atlas, weights)?;
+    write_totals(out, b"types", atlas)
 }

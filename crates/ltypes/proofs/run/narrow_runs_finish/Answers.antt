@@ -1,4 +1,4 @@
-use Rattle.ltypes.proofs.Finishing.{narrow_runs}
+use Rattle.ltypes.proofs.Resuming.{narrow_runs}
 use Rattle.ltypes.proofs.run.narrow_runs_finish.Goals as goal
 
 pub returns : goal.returns

@@ -1,20 +1,21 @@
-use Rattle.std.proofs.Common.{◌≤◌, length, subst}
-use Rattle.ltypes.specs.Runs.{IsRun}
+use Rattle.std.proofs.Common.{arith}
+use Rattle.ltypes.specs.Changes.{change}
+use Rattle.ltypes.specs.Runs.{IsRunHere}
+use Rattle.ltypes.proofs.Started.{begins_in_dimension}
 use Rattle.ltypes.proofs.Ending.{is_run, answers}
 use Rattle.ltypes.proofs.run.write_run.Goals as goal
 
-pub returns-in-Ok-write_atlas : goal.returns-in-Ok-write_atlas
-returns-in-Ok-write_atlas g c =
-    let e = c.run_alone-ended.result in
-    let within : length e.atlas.log ≤ c.args.steps = subst (λ n. n ≤ c.args.steps) c.run_alone-ended.ensures.done c.run_alone-ended.ensures.within in
-    let run : IsRun c.args.d c.args.steps e.atlas = is_run c.args.d c.args.steps c.in-Ok.start e.atlas c.in-Ok.ensures c.run_alone-ended.ensures.run within c.keeps.ensures.kept in
-    record {
-      answer = answers c.args.d c.args.steps e.atlas _ _ _ _ run c.keeps.ensures.low c.keeps.ensures.kept c.in-Ok-write_atlas.ensures.bytes.whole e.memory c.cause_of.result c.run_alone-ended.ensures.settled c.cause_of.ensures.memory c.cause_of.ensures.finished c.cause_of.ensures.unfinished;
-    }
-
-pub returns : goal.returns
-returns g c =
-    let e = c.run_alone-ended.result in
-    let within : length e.atlas.log ≤ c.args.steps = subst (λ n. n ≤ c.args.steps) c.run_alone-ended.ensures.done c.run_alone-ended.ensures.within in
-    let run : IsRun c.args.d c.args.steps e.atlas = is_run c.args.d c.args.steps c.in-Ok.start e.atlas c.in-Ok.ensures c.run_alone-ended.ensures.run within c.keeps.ensures.kept in
-    record { answer = (c.in-Err.ensures.cause.failed, (e.atlas, run, c.in-Err.ensures.bytes.front)) }
+pub returns-clause-answer : goal.returns-clause-answer
+returns-clause-answer g c =
+    let d = c.args.d in
+    let resume = c.args.resume in
+    let source = change (g.S.Source.left c.args.source.now) (g.S.Source.left c.beginning.new.source) (g.S.Source.faults c.args.source.now) (g.S.Source.faults c.beginning.new.source) in
+    let out = change (g.K.Sink.held c.args.out.now) (g.K.Sink.held c.write_ended.new.out) (g.K.Sink.faults c.args.out.now) (g.K.Sink.faults c.write_ended.new.out) in
+    let e = c.enumerate-ended.result in
+    let s = c.in-Ok.start in
+    let here : IsRunHere d c.args.workers c.args.steps resume source e.atlas = record {
+      start = s;
+      beginning = c.in-Ok.ensures.begins;
+      run = is_run d c.args.workers c.args.steps s e.atlas (begins_in_dimension d resume source s c.in-Ok.ensures.begins) c.enumerate-ended.ensures.begins c.enumerate-ended.ensures.below (λ one. let several = c.requires.several in absurd (omega (arith, one, several))) c.keeps.ensures.kept;
+    } in
+    answers d c.args.workers c.args.steps resume source out e.memory e.atlas c.write_ended.result here c.keeps.ensures.low c.keeps.ensures.kept c.enumerate-ended.ensures.settled c.write_ended.ensures

@@ -1,0 +1,3 @@
+pub mod Laws
+pub mod Scrambles
+pub mod States

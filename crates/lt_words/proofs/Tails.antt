@@ -1,0 +1,173 @@
+-- What stands behind the first word of a command but `run`, and where its faults are.
+use Rattle.std.proofs.Common.{◌≡◌, ℕ, ◌<◌, ◌≤◌, ◌^◌, Bool, true, false, cond, eqb, List, [], ◌∷◌, ◌++◌, ◌⊎◌, inl, inr, length, get_or, codes, Result, IfErr, refl, sym, ap, ◌∙◌, subst, arith, length-append}
+use Rattle.std.proofs.lemmas.Bool.{cases_lt}
+use Rattle.std.proofs.lemmas.List.{get_or-map}
+use Rattle.std.proofs.lemmas.Result.{err_from_is_err_and}
+use Rattle.std.specs.Result.{IsErrAnd}
+use denote.Ref.{Bor}
+use Rattle.std.specs.Fmt.{decimal}
+use Rattle.lt_words.specs.declared.words.Command.{Command}
+use Rattle.lt_words.specs.declared.words.Command.TheVariants.{Principal, Summary, Check, Run}
+use Rattle.lt_words.specs.declared.words.WordsError.{WordsError}
+use Rattle.lt_words.specs.declared.words.WordsError.TheVariants.{Fault}
+use Rattle.lt_words.specs.declared.words.Kind.{Kind}
+use Rattle.lt_words.specs.declared.words.Kind.TheVariants as kind
+use Rattle.lt_words.specs.Grammar.{texts, place_of, IsDimension, InRange, Spells, IsAccepted, FaultAt}
+use Rattle.lt_words.specs.Parts.{kind_word, HasFront, HasWord}
+use Rattle.lt_words.proofs.Fronts.{begins, front_alone, longer, fault_at_end, fault_at_word}
+
+-- ---- kinds
+
+abbrev pub kind_of : Command → Kind
+kind_of (Principal d) = kind.Principal
+kind_of (Summary d r) = kind.Summary
+kind_of (Check d) = kind.Check
+kind_of (Run d w s r) = kind.Run
+
+-- a command begins with the word of its kind
+pub first_word : (c : Command) (ws : List (List ℕ)) → Spells c ws → (rest : List (List ℕ)) × (ws ≡ kind_word (kind_of c) ∷ rest)
+first_word (Principal d) ws e = (decimal d ∷ [], e)
+first_word (Summary d r) ws e = (decimal d ∷ cond r (codes "--resume" ∷ []) [], e)
+first_word (Check d) ws e = (decimal d ∷ [], e)
+first_word (Run d w s r) ws (rest, items, e, m, made) = (rest, e)
+
+kind_at : ℕ → Kind
+kind_at n = cond (eqb n 112) kind.Principal (cond (eqb n 115) kind.Summary (cond (eqb n 99) kind.Check kind.Run))
+
+kind_again : (k : Kind) → kind_at (get_or (kind_word k) 0 0) ≡ k
+unfolding kind_at
+kind_again kind.Principal = refl
+kind_again kind.Summary = refl
+kind_again kind.Check = refl
+kind_again kind.Run = refl
+
+-- kinds have different words
+pub same_kind : (k l : Kind) → kind_word k ≡ kind_word l → k ≡ l
+same_kind k l e = sym (kind_again k) ∙ ap (λ w. kind_at (get_or w 0 0)) e ∙ kind_again l
+
+-- ---- shapes
+
+-- what stands behind the dimension
+abbrev pub IsEnd : Kind → List (List ℕ) → Type 0
+IsEnd kind.Principal ts = ts ≡ []
+IsEnd kind.Summary ts = (ts ≡ []) ⊎ (ts ≡ codes "--resume" ∷ [])
+IsEnd kind.Check ts = ts ≡ []
+IsEnd kind.Run ts = ⊥
+
+-- what stands behind the first word
+abbrev IsTail : Kind → List (List ℕ) → Type 0
+IsTail k ts = (d : ℕ) × (end : List (List ℕ)) × IsDimension d × (ts ≡ decimal d ∷ end) × IsEnd k end
+
+tail_of : (c : Command) (ts : List (List ℕ)) → InRange c → Spells c (kind_word (kind_of c) ∷ ts) → (kind_of c ≡ kind.Run → ⊥) → IsTail (kind_of c) ts
+tail_of (Principal d) ts r e other = (d, [], r, cc, refl)
+tail_of (Summary d true) ts r e other = (d, codes "--resume" ∷ [], r, cc, inr refl)
+tail_of (Summary d false) ts r e other = (d, [], r, cc, inl refl)
+tail_of (Check d) ts r e other = (d, [], r, cc, refl)
+tail_of (Run d w s r) ts range e other = absurd (other refl)
+
+tail : (k : Kind) (ts : List (List ℕ)) → (k ≡ kind.Run → ⊥) → IsAccepted (kind_word k ∷ ts) → IsTail k ts
+tail k ts other (c, r, s) =
+    let f = first_word c (kind_word k ∷ ts) s in
+    let head : kind_word k ≡ kind_word (kind_of c) = let e = f.1 in cc in
+    let same = same_kind k (kind_of c) head in
+    subst (λ l. IsTail l ts) (sym same) (tail_of c ts r (subst (λ l. Spells c (kind_word l ∷ ts)) same s) (λ e. other (same ∙ e)))
+
+accepts : (k : Kind) (ts : List (List ℕ)) → IsTail k ts → IsAccepted (kind_word k ∷ ts)
+accepts kind.Principal ts (d, end, r, e, is) = (Principal d, r, ap (λ l. codes "principal" ∷ l) (e ∙ ap (λ l. decimal d ∷ l) is))
+accepts kind.Summary ts (d, end, r, e, inl is) = (Summary d false, r, ap (λ l. codes "summary" ∷ l) (e ∙ ap (λ l. decimal d ∷ l) is))
+accepts kind.Summary ts (d, end, r, e, inr is) = (Summary d true, r, ap (λ l. codes "summary" ∷ l) (e ∙ ap (λ l. decimal d ∷ l) is))
+accepts kind.Check ts (d, end, r, e, is) = (Check d, r, ap (λ l. codes "check" ∷ l) (e ∙ ap (λ l. decimal d ∷ l) is))
+accepts kind.Run ts (d, end, r, e, is) = absurd is
+
+-- ---- faults
+
+-- behind the first words `front` of a tail, which can be continued by `more`
+tail_fault : (ws : List (List ℕ)) (k : Kind) (front more : List (List ℕ)) → (k ≡ kind.Run → ⊥) → HasFront ws (kind_word k ∷ front) → IsTail k (front ++ more) → (length ws ≡ length (kind_word k ∷ front) → IsTail k front → ⊥) → ((v : List ℕ) (rest : List (List ℕ)) → HasWord ws (length (kind_word k ∷ front)) v → IsTail k (front ++ v ∷ rest) → ⊥) → FaultAt ws (length (kind_word k ∷ front))
+tail_fault ws k front more other has goes outside here =
+    let whole = kind_word k ∷ front in
+    let before = begins whole more (accepts k (front ++ more) goes) in
+    elim (cases_lt (length whole) (length ws)) [
+      | inl lt ↦ fault_at_word ws whole has lt before (λ rest a. here (get_or ws (length whole) []) rest (lt, refl) (tail k (front ++ get_or ws (length whole) [] ∷ rest) other a))
+      | inr ge ↦ let len : length ws ≡ length whole = omega (arith, ge, ap length has.1, length-append whole has.0) in
+          fault_at_end ws whole has len before (λ a. outside len (tail k front other a))
+    ]
+
+some_end : (k : Kind) → (k ≡ kind.Run → ⊥) → (end : List (List ℕ)) × IsEnd k end
+some_end kind.Principal other = ([], refl)
+some_end kind.Summary other = ([], inl refl)
+some_end kind.Check other = ([], refl)
+some_end kind.Run other = absurd (other refl)
+
+-- no dimension stands behind the first word
+pub dimension_fault : (ws : List (List ℕ)) (k : Kind) → (k ≡ kind.Run → ⊥) → HasFront ws (kind_word k ∷ []) → ((d : ℕ) → IsDimension d → HasWord ws 1 (decimal d) → ⊥) → FaultAt ws 1
+dimension_fault ws k other has none =
+    let (end, is) = some_end k other in
+    tail_fault ws k [] (decimal 2 ∷ end) other has (2, end, (omega arith, omega arith), refl, is)
+    (λ len t. let e = t.3 in absurd (cc))
+    (λ v rest w t. let e = t.3 in none t.0 t.2 (w.0, w.1 ∙ cc))
+
+-- the fault stands behind the dimension
+pub later_fault : (ws : List (List ℕ)) (k : Kind) (d : ℕ) (front more : List (List ℕ)) → (k ≡ kind.Run → ⊥) → IsDimension d → HasFront ws (kind_word k ∷ decimal d ∷ front) → IsEnd k (front ++ more) → (length ws ≡ length (kind_word k ∷ decimal d ∷ front) → IsEnd k front → ⊥) → ((v : List ℕ) (rest : List (List ℕ)) → HasWord ws (length (kind_word k ∷ decimal d ∷ front)) v → IsEnd k (front ++ v ∷ rest) → ⊥) → FaultAt ws (length (kind_word k ∷ decimal d ∷ front))
+later_fault ws k d front more other r has goes outside here =
+    tail_fault ws k (decimal d ∷ front) more other has (d, front ++ more, r, refl, goes)
+    (λ len t. let e = t.3 in outside len (subst (IsEnd k) (let same : t.1 ≡ front = cc in same) t.4))
+    (λ v rest w t. let e = t.3 in here v rest w (subst (IsEnd k) (let same : t.1 ≡ front ++ v ∷ rest = cc in same) t.4))
+
+-- the words begin with the dimension, too
+pub with_dimension : (ws : List (List ℕ)) (k : Kind) (d : ℕ) → HasFront ws (kind_word k ∷ []) → HasWord ws 1 (decimal d) → HasFront ws (kind_word k ∷ decimal d ∷ [])
+with_dimension ws k d has w = longer ws (kind_word k ∷ []) (decimal d) has w.0 w.1
+
+-- a word more than `principal D` or `check D`
+pub third_word : (ws : List (List ℕ)) (k : Kind) (d : ℕ) → (k ≡ kind.Run → ⊥) → IsDimension d → HasFront ws (kind_word k ∷ decimal d ∷ []) → IsEnd k [] → ((v : List ℕ) (rest : List (List ℕ)) → HasWord ws 2 v → IsEnd k (v ∷ rest) → ⊥) → 2 < length ws → FaultAt ws 2
+third_word ws k d other r has end here more = later_fault ws k d [] [] other r has end (λ len t. omega (arith, len, more)) here
+
+-- a word more than `summary D --resume`
+pub fourth_word : (ws : List (List ℕ)) (d : ℕ) → IsDimension d → HasFront ws (codes "summary" ∷ decimal d ∷ codes "--resume" ∷ []) → 3 < length ws → FaultAt ws 3
+fourth_word ws d r has more = later_fault ws kind.Summary d (codes "--resume" ∷ []) [] (λ e. cc) r has (inr refl) (λ len t. omega (arith, len, more)) (λ v rest w t. elim t [ inl e ↦ cc | inr e ↦ cc ])
+
+-- ---- the first word
+
+-- no word
+pub no_word : (ws : List (List ℕ)) → length ws ≡ 0 → FaultAt ws 0
+no_word ws len = fault_at_end ws [] (ws, refl) len (begins [] _ (accepts kind.Principal (decimal 2 ∷ []) (2, [], (omega arith, omega arith), refl, refl))) (λ a. let f = (first_word a.0 [] a.2).1 in cc)
+
+-- another first word
+pub other_kind : (ws : List (List ℕ)) → 0 < length ws → ((k : Kind) → get_or ws 0 [] ≡ kind_word k → ⊥) → FaultAt ws 0
+other_kind ws some other =
+    fault_at_word ws [] (ws, refl) some (begins [] _ (accepts kind.Principal (decimal 2 ∷ []) (2, [], (omega arith, omega arith), refl, refl)))
+    (λ rest a. let f = (first_word a.0 (get_or ws 0 [] ∷ rest) a.2).1 in other (kind_of a.0) (cc))
+
+-- ---- answers
+
+-- the fault that is answered at the exit of a `?`
+pub fault_at_exit : (r : Result Command WordsError) (e : WordsError) (ws : List (List ℕ)) (place : ℕ) → IsErrAnd r (λ y. y ≡ e) → e ≡ Fault place → FaultAt ws place → IfErr r (λ y. FaultAt ws (place_of y))
+fault_at_exit r e ws place at is fault =
+    let p = err_from_is_err_and r at in
+    subst (λ x. IfErr x (λ y. FaultAt ws (place_of y))) (sym p.1) (subst (λ y. FaultAt ws (place_of y)) (sym (p.2 ∙ is)) fault)
+
+-- the word at a place, as the program reads it
+pub word_here : (words : List (Bor (List ℕ))) (place : ℕ) (default : Bor (List ℕ)) → place < length words → (get_or words place default).now ≡ get_or (texts words) place []
+word_here words place default lt = sym (get_or-map (λ w. w.now) words place default [] lt)
+
+-- the first word of a command
+pub first_is : (words : List (Bor (List ℕ))) (default : Bor (List ℕ)) (w : List ℕ) → 0 < length words → (get_or words 0 default).now ≡ w → HasFront (texts words) (w ∷ [])
+first_is [] default w some is = absurd (omega (arith, some))
+first_is (v ∷ words) default w some is = (texts words, ap (λ u. u ∷ texts words) is)
+
+-- whether `--resume` stands behind the dimension, the words end behind it
+pub summary_spelt : (ws : List (List ℕ)) (d : ℕ) (resume : Bool) (place : ℕ) → HasFront ws (codes "summary" ∷ decimal d ∷ []) → (resume ≡ true → HasWord ws 2 (codes "--resume")) → (resume ≡ true → place ≡ 3) → (resume ≡ false → place ≡ 2) → length ws ≤ place → ws ≡ codes "summary" ∷ decimal d ∷ cond resume (codes "--resume" ∷ []) []
+summary_spelt ws d true place has is three two few =
+    let w = is refl in
+    front_alone ws (codes "summary" ∷ decimal d ∷ codes "--resume" ∷ []) (longer ws (codes "summary" ∷ decimal d ∷ []) (codes "--resume") has w.0 w.1) (omega (arith, few, three refl, w.0))
+summary_spelt ws d false place has is three two few =
+    front_alone ws (codes "summary" ∷ decimal d ∷ []) has (omega (arith, few, two refl, ap length has.1, length-append (codes "summary" ∷ decimal d ∷ []) has.0))
+
+-- and else the fault is the word there
+pub summary_fault : (ws : List (List ℕ)) (d : ℕ) (resume : Bool) (place : ℕ) → IsDimension d → HasFront ws (codes "summary" ∷ decimal d ∷ []) → (resume ≡ true → HasWord ws 2 (codes "--resume")) → (HasWord ws 2 (codes "--resume") → resume ≡ true) → (resume ≡ true → place ≡ 3) → (resume ≡ false → place ≡ 2) → place < length ws → FaultAt ws place
+summary_fault ws d true place r has is only three two more =
+    let w = is refl in
+    let at = three refl in
+    subst (FaultAt ws) (sym at) (fourth_word ws d r (longer ws (codes "summary" ∷ decimal d ∷ []) (codes "--resume") has w.0 w.1) (omega (arith, at, more)))
+summary_fault ws d false place r has is only three two more =
+    let at = two refl in
+    subst (FaultAt ws) (sym at) (third_word ws kind.Summary d (λ e. cc) r has (inl refl) (λ v rest w t. elim t [ inl e ↦ cc | inr e ↦ let no = only (w.0, w.1 ∙ cc) in cc ]) (omega (arith, at, more)))
