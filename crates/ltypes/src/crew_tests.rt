@@ -1,6 +1,6 @@
 //! Several workers: how many types they find, and that several are in the middle of a crossing at once.
 
-use super::{Cause, OpenGate, ltypes};
+use super::{OpenGate, ltypes};
 use lt_core::Atlas;
 use lt_crew::{Gate, enumerate};
 use lt_io::{MemorySink, SliceSource};
@@ -53,13 +53,13 @@ impl Gate for Holding {
     }
 }
 
-/// Out and the cause of the words, at a gate.
+/// Out and the status of the words, at a gate.
 fn told<R: Threads + Wait + Sync, G: Gate>(
     rt: &R,
     alloc: Global,
     words: &[&str],
     gate: &G,
-) -> Result<(MemorySink, Cause), AllocError> {
+) -> Result<(MemorySink, u8), AllocError> {
     let (Ok(mut out), Ok(mut err)) = (
         MemorySink::new(alloc, 60_000, 5000, Vec::new(alloc)),
         MemorySink::new(alloc, 100, 100, Vec::new(alloc)),
@@ -67,8 +67,8 @@ fn told<R: Threads + Wait + Sync, G: Gate>(
         return Err(AllocError);
     };
     let mut source = SliceSource::new(b"");
-    let cause = ltypes(rt, alloc, words, &mut source, &mut out, &mut err, gate).cause;
-    Ok((out, cause))
+    let code = ltypes(rt, alloc, words, &mut source, &mut out, &mut err, gate).code;
+    Ok((out, code))
 }
 
 /// The number of lines that begin so.
@@ -82,8 +82,8 @@ fn lines(text: &[u8], start: &str) -> usize {
 #[test]
 fn workers_find_the_types_of_dimension_4(rt: HostRuntime) -> Result<(), Fail> {
     let words = ["run", "4", "--workers", "4"];
-    let (out, cause) = told(&rt, rt.alloc(), &words, &OpenGate)?;
-    assert!(rt; cause == Cause::Finished && lines(out.bytes(), "entries 3") == 1);
+    let (out, code) = told(&rt, rt.alloc(), &words, &OpenGate)?;
+    assert!(rt; code == 0 && lines(out.bytes(), "entries 3") == 1);
     assert!(rt; lines(out.bytes(), "simplices 24") == 3 && lines(out.bytes(), "cross ") == 30);
     Ok(())
 }
@@ -91,8 +91,8 @@ fn workers_find_the_types_of_dimension_4(rt: HostRuntime) -> Result<(), Fail> {
 #[test]
 fn workers_stop_at_the_step_limit(rt: HostRuntime) -> Result<(), Fail> {
     let words = ["run", "5", "--steps", "15", "--workers", "8"];
-    let (out, cause) = told(&rt, rt.alloc(), &words, &OpenGate)?;
-    assert!(rt; matches!(cause, Cause::Unfinished { stuck: 0, .. }));
+    let (out, code) = told(&rt, rt.alloc(), &words, &OpenGate)?;
+    assert!(rt; code == 1);
     assert!(rt; lines(out.bytes(), "entries 2") == 1 && lines(out.bytes(), "cross 1 ") == 15);
     Ok(())
 }
@@ -105,8 +105,8 @@ fn workers_cross_side_by_side(rt: HostRuntime) -> Result<(), Fail> {
     let ended = enumerate(&rt, alloc, Atlas::start(alloc, 2)?, 2, 3, &gate);
     assert!(rt; gate.saw() && ended.claims >= 3 && ended.done == 3);
     let gate = Holding::new(2, 2);
-    let (_, cause) = told(&rt, alloc, &["run", "2", "--workers", "3"], &gate)?;
-    assert!(rt; gate.saw() && cause == Cause::Finished);
+    let (_, code) = told(&rt, alloc, &["run", "2", "--workers", "3"], &gate)?;
+    assert!(rt; gate.saw() && code == 0);
     let gate = Holding::new(1, 2);
     let ended = enumerate(&rt, alloc, Atlas::start(alloc, 4)?, 2, 3, &gate);
     assert!(rt; gate.saw() && ended.atlas.entries() == 2);

@@ -12,7 +12,7 @@ use lt_lines::{write_count, write_line};
 use lt_read::Refusal;
 
 /// Why the program ends. The number of each stands at `Status::code`.
-#[derive(PartialEq, Eq, Drop)]
+#[derive(Drop)]
 pub enum Cause {
     /// `run`: every facet of the written atlas is crossed.
     Finished,
@@ -40,7 +40,7 @@ pub enum Cause {
 }
 
 /// How the program ends.
-#[derive(PartialEq, Eq, Drop)]
+#[derive(Drop)]
 pub struct Status {
     /// The number of the cause, with which the program ends.
     pub code: u8,

@@ -3,7 +3,8 @@ use Rattle.lt_model.specs.Cones.{Row}
 use Rattle.lt_core.specs.Marks.{entry_of}
 use Rattle.lt_triang.specs.Kept.{dimension_of}
 use Rattle.lt_crew.proofs.Places.{stands_at, is_facet, form_here}
-use Rattle.lt_crew.proofs.Beyond.{StandsAt, facet_here, lies_across, narrow_here}
+use Rattle.lt_crew.specs.Standing.{StandsAt}
+use Rattle.lt_crew.proofs.Beyond.{facet_here, lies_across, narrow_here}
 use Rattle.lt_rows.proofs.atlases.first_across.Goals as goal
 
 pub flip-requires-clause-delaunay : goal.flip-requires-clause-delaunay
