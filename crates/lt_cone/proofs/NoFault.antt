@@ -1,4 +1,4 @@
--- A right cone has no fault.
+-- A right cone has no fault, and a fault of one list of the regulators is one of each.
 use Rattle.std.proofs.Common.{◌≡◌, ◌∙◌, sym, ap, subst, arith, inl, inr, ℕ, ◌<◌, ℤ, List, [], length, get_or}
 use Rattle.std.proofs.lemmas.List.{get_or-map, length-map}
 use Rattle.lt_model.specs.Cones.{Row, Cone, normals, IsRightCone, IsRightVerdict}
@@ -6,7 +6,7 @@ use Rattle.lt_model.specs.Limits.{weight, weight_limit}
 use Rattle.lt_model.specs.Walls.{AreRegulators}
 use Rattle.lt_regulator.proofs.Distinct.{one_list}
 use Rattle.lt_cone.specs.declared.error.ConeFault.TheVariants.{Wrong}
-use Rattle.lt_cone.specs.Faults.{IsRowOf, IsFault}
+use Rattle.lt_cone.specs.Faults.{IsRowOf, IsFault, HasFault}
 use Rattle.lt_cone.specs.Laws.{NoRightConeHasAFault}
 
 module _ (d : ℕ) (t : List (List (List ℤ))) (c : Cone) (ns : List (List ℤ)) (r : AreRegulators d t ns) (h : IsRightCone d t c) where
@@ -41,3 +41,6 @@ module _ (d : ℕ) (t : List (List (List ℤ))) (c : Cone) (ns : List (List ℤ)
 
 pub none_wrong : NoRightConeHasAFault
 none_wrong d t c ns row r h f = no_fault d t c ns r h row f
+
+pub each_fault : (d : ℕ) (t : List (List (List ℤ))) (c : Cone) (row : ℕ) → HasFault d t c (Wrong row) → (ns : List (List ℤ)) → AreRegulators d t ns → IsFault d ns c (Wrong row)
+each_fault d t c row (ms, s, f) ns r = subst (λ (xs : List (List ℤ)). IsFault d xs c (Wrong row)) (one_list d t ms ns s r) f

@@ -1,12 +1,11 @@
 //! The test of a cone against a triangulation.
 
 ghost use Rattle.std.specs.Prelude.{◌≡◌, ◌<◌, ◌≤◌, ℕ, ℤ, List, [], length, get_or, IsTrue, ◌↔◌, IfOk, IfErr};
-ghost use Rattle.lt_model.specs.Walls.{AreRegulators};
 ghost use Rattle.lt_model.specs.Cones.{IsRightCone, IsRightVerdict};
 ghost use Rattle.lt_model.specs.Limits.{weight, weight_limit};
 ghost use Rattle.lt_tableau.specs.Errors.{AreOfDimension};
 ghost use Rattle.lt_triang.specs.Kept.{dimension_of, IsOfSomeForm};
-ghost use Rattle.lt_cone.specs.Faults.{IsRowOf, IsFault, IsSmallFault};
+ghost use Rattle.lt_cone.specs.Faults.{IsRowOf, HasFault, IsSmallFault};
 
 use crate::error::ConeFault;
 use lt_lattice::Normal;
@@ -51,7 +50,7 @@ fn first_wrong(normals: &[Normal], rows: &[Row]) -> usize
 pub fn check_cone(alloc: Global, t: &Triangulation, cone: &Cone) -> Result<(), ConeFault>
     requires { IsOfSomeForm t.now }
     ensures right { IfOk result (λ _. IsRightCone (dimension_of t.now) t.now cone.now) }
-    ensures wrong { IfErr result (λ e. (ns : List (List ℤ)) → AreRegulators (dimension_of t.now) t.now ns → IsFault (dimension_of t.now) ns cone.now e) }
+    ensures wrong { IfErr result (HasFault (dimension_of t.now) t.now cone.now) }
     ensures small { IfErr result IsSmallFault }
 {
     // It shows that the regulators are few.

@@ -1,6 +1,13 @@
-ghost use Rattle.lt_cone.specs.Laws.{NoRightConeHasAFault};
+//! Laws of cones, with nothing to run.
 
-/// A law, with nothing to run: a fault that `check_cone` names excludes a right cone.
+ghost use Rattle.lt_cone.specs.Laws.{FacetsAreWallRows, NoRightConeHasAFault};
+
+/// A fault that `check_cone` names excludes a right cone.
 pub fn faults_are_wrong()
     ensures { NoRightConeHasAFault }
+{}
+
+/// In a right cone a regulator is a facet of the secondary cone exactly where its row has a wall form.
+pub fn facets_are_wall_rows()
+    ensures { FacetsAreWallRows }
 {}

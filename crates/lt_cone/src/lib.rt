@@ -9,4 +9,4 @@ mod laws;
 pub use checks::check_cone;
 pub use cones::cone;
 pub use error::{ConeError, ConeFault};
-pub use laws::faults_are_wrong;
+pub use laws::{facets_are_wall_rows, faults_are_wrong};

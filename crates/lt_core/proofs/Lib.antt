@@ -5,7 +5,6 @@ pub mod Steps
 pub mod Kept
 pub mod Starting
 pub mod Counting
-pub mod ConeFacets
 pub mod Crossings
 pub mod Reaching
 pub mod Writes

@@ -1,4 +1,4 @@
--- The principal triangulation of dimension 2 to 5 is light: its regulators are the stated normals, whose numbers are small.
+-- The principal triangulation of dimension 2 to 6 is light: its regulators are the stated normals, whose numbers are small.
 use Rattle.std.proofs.Common.{◌≡◌, ℕ, zero, suc, ℤ, ◌*◌, ◌^◌, ◌<◌, ◌≤◌, refl, arith, sym, ap, ◌∙◌, subst, inl, inr, List, [], ◌∷◌, map, take, Bool, true, false}
 use Rattle.std.specs.Prelude.{nat_abs, cond, nat_le}
 use Rattle.std.specs.List.{AllByRecursion, Contains}
@@ -13,6 +13,7 @@ use Rattle.lt_model.specs.Principal.{IsPrincipal}
 use Rattle.lt_model.proofs.Sets.{Contains-head, Contains-tail}
 use Rattle.lt_geometry.specs.Principal.{pair_normal, own_normal, IsPrincipalNormal}
 use Rattle.lt_geometry.proofs.PrincipalNormals.{principal_regulators}
+use Rattle.lt_core.specs.Starts.{PrincipalTypesAreLight}
 
 -- ---- small factors have a small product
 
@@ -69,7 +70,7 @@ pairs d = every (λ j. every (λ i. leb (size (pair_normal d i j)) 10) d) d
 abbrev owns : ℕ → Bool
 owns d = every (λ i. leb (size (own_normal d i)) 10) d
 
-all_pairs : (d : ℕ) → 2 ≤ d → d ≤ 5 → pairs d ≡ true
+all_pairs : (d : ℕ) → 2 ≤ d → d ≤ 6 → pairs d ≡ true
 unfolding every
 all_pairs zero low high = absurd (omega (arith, low))
 all_pairs (suc zero) low high = absurd (omega (arith, low))
@@ -77,9 +78,10 @@ all_pairs (suc (suc zero)) low high = refl
 all_pairs (suc (suc (suc zero))) low high = refl
 all_pairs (suc (suc (suc (suc zero)))) low high = refl
 all_pairs (suc (suc (suc (suc (suc zero))))) low high = refl
-all_pairs (suc (suc (suc (suc (suc (suc d)))))) low high = absurd (omega (arith, high))
+all_pairs (suc (suc (suc (suc (suc (suc zero)))))) low high = refl
+all_pairs (suc (suc (suc (suc (suc (suc (suc d))))))) low high = absurd (omega (arith, high))
 
-all_owns : (d : ℕ) → 2 ≤ d → d ≤ 5 → owns d ≡ true
+all_owns : (d : ℕ) → 2 ≤ d → d ≤ 6 → owns d ≡ true
 unfolding every
 all_owns zero low high = absurd (omega (arith, low))
 all_owns (suc zero) low high = absurd (omega (arith, low))
@@ -87,9 +89,10 @@ all_owns (suc (suc zero)) low high = refl
 all_owns (suc (suc (suc zero))) low high = refl
 all_owns (suc (suc (suc (suc zero)))) low high = refl
 all_owns (suc (suc (suc (suc (suc zero))))) low high = refl
-all_owns (suc (suc (suc (suc (suc (suc d)))))) low high = absurd (omega (arith, high))
+all_owns (suc (suc (suc (suc (suc (suc zero)))))) low high = refl
+all_owns (suc (suc (suc (suc (suc (suc (suc d))))))) low high = absurd (omega (arith, high))
 
-small : (d : ℕ) → 2 ≤ d → d ≤ 5 → (n : List ℤ) → IsPrincipalNormal d n → size n ≤ 10
+small : (d : ℕ) → 2 ≤ d → d ≤ 6 → (n : List ℤ) → IsPrincipalNormal d n → size n ≤ 10
 small d low high n (inl (i, j, lt, below, is)) =
     let e = holds_at (λ k. leb (size (pair_normal d k j)) 10) d i (holds_at (λ l. every (λ k. leb (size (pair_normal d k l)) 10) d) d j (all_pairs d low high) below) (omega (arith, lt, below)) in
     subst (λ (m : List ℤ). size m ≤ 10) (sym is) (leb-true _ _ e)
@@ -99,16 +102,17 @@ small d low high n (inr (i, below, is)) =
 
 -- ---- the weight
 
-below_limit : (d : ℕ) → 2 ≤ d → d ≤ 5 → powers (suc (numbers_of_form d)) < weight_limit
+below_limit : (d : ℕ) → 2 ≤ d → d ≤ 6 → powers (suc (numbers_of_form d)) < weight_limit
 below_limit zero low high = absurd (omega (arith, low))
 below_limit (suc zero) low high = absurd (omega (arith, low))
 below_limit (suc (suc zero)) low high = omega arith
 below_limit (suc (suc (suc zero))) low high = omega arith
 below_limit (suc (suc (suc (suc zero)))) low high = omega arith
 below_limit (suc (suc (suc (suc (suc zero))))) low high = omega arith
-below_limit (suc (suc (suc (suc (suc (suc d)))))) low high = absurd (omega (arith, high))
+below_limit (suc (suc (suc (suc (suc (suc zero)))))) low high = omega arith
+below_limit (suc (suc (suc (suc (suc (suc (suc d))))))) low high = absurd (omega (arith, high))
 
-pub principal_is_light : (d : ℕ) (t : List (List (List ℤ))) (ns : List (List ℤ)) → 2 ≤ d → d ≤ 5 → IsPrincipal d t → AreRegulators d t ns → weight d ns < weight_limit
+pub principal_is_light : PrincipalTypesAreLight
 principal_is_light d t ns low high p h =
     let k : ℕ = suc (numbers_of_form d) in
     let values : List ℕ = map size ns in

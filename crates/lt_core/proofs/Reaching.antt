@@ -13,7 +13,7 @@ use Rattle.lt_core.proofs.Crossings.{HasForm, AreCrossings}
 use Rattle.lt_model.proofs.Sets.{same_members, simplex_cmp_total}
 use Rattle.lt_model.specs.Order.{simplex_cmp}
 use Rattle.lt_core.proofs.Equivalent.{carries_identity, carries_back, carries_on}
-use Rattle.lt_core.proofs.ConeFacets.{facets_exact}
+use Rattle.lt_lp.proofs.ConeFacets.{facets_exact}
 
 pub classes_of_form : (d : ℕ) (t : Classes) → HasForm d t → AreClasses d t
 classes_of_form d t (q, h) s m = ((h.members s).0 m).0

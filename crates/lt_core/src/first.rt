@@ -4,7 +4,7 @@ ghost use Rattle.std.specs.Prelude.{◌≤◌, IfOk};
 ghost use Rattle.lt_model.specs.Cones.{IsRightCone};
 ghost use Rattle.lt_model.specs.Principal.{IsPrincipal, principal_numbers};
 ghost use Rattle.lt_model.specs.Triangulations.{IsDelaunay};
-ghost use Rattle.lt_core.specs.Starts.{IsStarting};
+ghost use Rattle.lt_core.specs.Starts.{IsStarting, PrincipalTypesAreLight};
 
 use crate::atlas::Atlas;
 use crate::lists::opens_of;
@@ -18,7 +18,7 @@ use std::alloc::{AllocError, Global};
 /// The right cone of the principal triangulation.
 fn principal_cone(alloc: Global, d: u8, t: &Triangulation) -> Result<Cone, AllocError>
     requires low { 2 ≤ d }
-    requires high { d ≤ 5 }
+    requires high { d ≤ 6 }
     requires principal { IsPrincipal d t.now }
     requires delaunay { IsDelaunay d (principal_numbers d) t.now }
     ensures { IfOk result (λ c. IsRightCone d t.now c) }
@@ -35,10 +35,10 @@ fn principal_cone(alloc: Global, d: u8, t: &Triangulation) -> Result<Cone, Alloc
 }
 
 impl Atlas {
-    /// The atlas of dimension `d`, 2 to 5, that has the principal type alone, with every facet open.
+    /// The atlas of dimension `d`, 2 to 6, that has the principal type alone, with every facet open.
     pub fn start(alloc: Global, d: u8) -> Result<Atlas, AllocError>
         requires low { 2 ≤ d }
-        requires high { d ≤ 5 }
+        requires high { d ≤ 6 }
         ensures { IfOk result (λ a. IsStarting d a) }
     {
         let Ok(triangulation) = principal(alloc, d) else {
@@ -57,3 +57,8 @@ impl Atlas {
         Atlas::of(alloc, d, entries, marks)
     }
 }
+
+/// A law, with nothing to run: the weight of a principal type of dimension 2 to 6 is below 2^112, so an atlas can start with it.
+pub fn principal_types_are_light()
+    ensures { PrincipalTypesAreLight }
+{}

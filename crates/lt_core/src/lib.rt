@@ -13,6 +13,7 @@ mod prints;
 mod refusals;
 
 pub use atlas::Atlas;
+pub use first::principal_types_are_light;
 pub use marks::{Entry, Event, Mark};
 pub use prints::prints_of;
 pub use refusals::{Already, Back, Missed, Why};

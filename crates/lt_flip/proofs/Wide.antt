@@ -86,6 +86,7 @@ wide_flip d t n classes now e i found s c h is same first at s_is c_is =
     record {
       flipped = classes;
       flip = h.flip;
+      across = h.across;
       place = i;
       first = f;
       class_is = s_is ∙ at ∙ get_or_default classes i found [] f.place;

@@ -2,6 +2,7 @@
 use Rattle.std.specs.Prelude.{ℕ, ℤ, pos, negsuc, ◌<◌, ◌≤◌, ◌≡◌, ◌⊎◌, ◌↔◌, List, [], length, get_or}
 use Rattle.std.specs.List.{Contains}
 use Rattle.lt_model.specs.Limits.{class_span, span_limit}
+use Rattle.lt_model.specs.Walls.{IsAcross}
 use Rattle.lt_model.specs.Flips.{IsExchanged, IsFlipOf}
 use Rattle.lt_geometry.specs.Exchanges.{IsMadeFrom}
 use Rattle.lt_flip.specs.Outers.{HasNoFacet, IsOuterOf}
@@ -37,10 +38,11 @@ pub record IsFirstWide (d : ℕ) (t : List (List (List ℤ))) (i : ℕ) : Type 0
   pub wide : span_limit d < class_span (get_or t i [])
   pub before : (k : ℕ) → k < i → class_span (get_or t k []) ≤ span_limit d
 
--- the flip has a class whose span is above the limit; the first of them is s, with the span c
+-- the flip, which is the triangulation across, has a class whose span is above the limit; the first of them is s, with the span c
 pub record IsWideFlip (d : ℕ) (t : List (List (List ℤ))) (n : List ℤ) (s : List (List ℤ)) (c : ℤ) : Type 0 where
   pub flipped : List (List (List ℤ))
   pub flip : IsFlipOf d t n flipped
+  pub across : IsAcross d t n flipped
   pub place : ℕ
   pub first : IsFirstWide d flipped place
   pub class_is : s ≡ get_or flipped place []

@@ -12,3 +12,4 @@ pub mod Circumradii
 pub mod EdgesListed
 pub mod Sections
 pub mod Covering
+pub mod CarriedNormals

@@ -6,6 +6,7 @@
 ghost use Rattle.lt_geometry.specs.Principal.{NormalsSay, PrincipalExists, PrincipalCount};
 ghost use Rattle.lt_laws.specs.Negatives.{NegativesAreMembers};
 ghost use Rattle.lt_laws.specs.Facets.{RegulatorsAreListed, FacetsBoundTheCone, FacetsSuffice, ReachedFacetsSuffice};
+ghost use Rattle.lt_laws.specs.Carried.{RegulatorsAreCarried, FacetsAreCarried};
 ghost use Rattle.lt_laws.specs.Circumradii.{CentresExist, CentresAreUnique, BallsAreEmpty};
 ghost use Rattle.lt_laws.specs.Covering.{CentresMoveAlong, EachPointIsCovered, GreatestRadiusCovers};
 ghost use Rattle.lt_laws.specs.Edges.{ParitiesHaveOneEdge, ShortestAreEdges, EdgesAreParities, EdgesReachBelow, LeastEdgesAreShortest, EdgesAreListed};
@@ -59,6 +60,12 @@ pub fn principal_count()
 /// A Delaunay triangulation has the ascending list of its regulators.
 pub fn regulators_are_listed()
     ensures { RegulatorsAreListed }
+{}
+
+/// A carrying matrix takes regulators to regulators, and facets to facets: to the normals with the same values at the carried forms.
+pub fn normals_are_carried()
+    ensures regulators { RegulatorsAreCarried }
+    ensures facets { FacetsAreCarried }
 {}
 
 /// A form that is positive at all facets of the secondary cone is positive at all regulators.

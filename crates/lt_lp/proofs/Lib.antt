@@ -24,3 +24,4 @@ pub mod Extreme
 pub mod RowLists
 pub mod RowSums
 pub mod ConesOf
+pub mod ConeFacets

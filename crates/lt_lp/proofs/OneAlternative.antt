@@ -10,7 +10,8 @@ use native.Mathlib.Decide.{dec_le}
 use Rattle.lt_model.specs.Padded.{tail_z, lookup}
 use Rattle.lt_model.specs.Vectors.{plus, scale, dot, combine}
 use Rattle.lt_model.specs.Simplices.{AllOfDimension}
-use Rattle.lt_model.specs.Cones.{coefficients, places}
+use Rattle.lt_model.specs.Forms.{numbers_of_form}
+use Rattle.lt_model.specs.Cones.{Verdict, wall, combination, coefficients, places, IsRightVerdict}
 use Rattle.lt_model.proofs.Integers.{mul_zero_z, zero_mul_z, mul_comm_z}
 use Rattle.lt_model.proofs.Ring.{ring, ring_by, var, num, ◌⊕◌, ◌⊗◌}
 use Rattle.lt_model.proofs.Inequalities.{mul_pos_z, mul_nonneg_z, mul_le_mul_z}
@@ -22,7 +23,7 @@ use Rattle.lt_tableau.specs.Numbers.{column_at, filled}
 use Rattle.lt_tableau.proofs.Sums.{lookup_none, lookup_scale, lookup_combine, sum_same}
 use Rattle.lt_lp.specs.Positive.{IsPositiveAt}
 use Rattle.lt_lp.specs.Terms.{terms_from}
-use Rattle.lt_lp.specs.Alternatives.{IsWallForm, IsCombination, HasWallForm, IsCombined, EveryPlaceHasOneAlternative}
+use Rattle.lt_lp.specs.Alternatives.{IsWallForm, IsCombination, HasWallForm, IsCombined, IsNoWall, EveryPlaceHasOneAlternative}
 use Rattle.lt_lp.proofs.Terms.{terms_ascend, terms_within, terms_other, terms_positive, terms_sum}
 use Rattle.lt_lp.proofs.Combined.{same_lists, combine-scale, all_of_dimension}
 use Rattle.lt_lp.proofs.Gordan.{AllAbove, Same, IsRelation, Alternative, gordan, turned, turned_positive, combine_turned, dot_combine_pos, dot_self_nonneg, dot_self_zero, same_dot}
@@ -157,8 +158,8 @@ some_terms : (form cs : List ℤ) (vs : List (List ℤ)) → pos 0 <ℤ dot form
 some_terms form [] vs h = let e = dot-nil form in absurd (omega (arith, ints))
 some_terms form (c ∷ cs) vs h = omega arith
 
-combination : (n : ℕ) (ns : List (List ℤ)) (k : ℕ) (form : List ℤ) → AllOfDimension n ns → k < length ns → AllAbove form ns → (s : ℤ) (ts : List ℤ) → IsSum (column_at ns k) (remove ns k) s ts → IsCombination ns k s (terms_from k (lookup ts) 0 (length (remove ns k)))
-combination n ns k form a h p s ts r = record {
+combined : (n : ℕ) (ns : List (List ℤ)) (k : ℕ) (form : List ℤ) → AllOfDimension n ns → k < length ns → AllAbove form ns → (s : ℤ) (ts : List ℤ) → IsSum (column_at ns k) (remove ns k) s ts → IsCombination ns k s (terms_from k (lookup ts) 0 (length (remove ns k)))
+combined n ns k form a h p s ts r = record {
   some = r.positive;
   ascending = terms_ascend k (lookup ts) 0 (length (remove ns k));
   within = within;
@@ -193,7 +194,7 @@ at_least_one n ns k form a h p = pick (one_of form (column_at ns k) (remove ns k
   where
     pick : ((x : List ℤ) × (dot x (column_at ns k) ≡ pos 0) × AllAbove x (remove ns k)) ⊎ ((s : ℤ) × (ts : List ℤ) × IsSum (column_at ns k) (remove ns k) s ts) → HasWallForm n ns k ⊎ IsCombined ns k
     pick (inl x) = inl (filled n x.0, wall_form n ns k x.0 a h x.1 x.2)
-    pick (inr x) = inr (x.0, terms_from k (lookup x.1) 0 (length (remove ns k)), combination n ns k form a h p x.0 x.1 x.2)
+    pick (inr x) = inr (x.0, terms_from k (lookup x.1) 0 (length (remove ns k)), combined n ns k form a h p x.0 x.1 x.2)
 
 -- ---- never both: the wall form would be positive at the sum
 lookup_nonneg : (cs : List ℤ) → All (λ x. pos 0 <ℤ x) cs → (i : ℕ) → pos 0 ≤ℤ lookup cs i
@@ -221,3 +222,16 @@ pub one_alternative : EveryPlaceHasOneAlternative
 one_alternative n ns k form a h p =
     let q = above_all form ns p in
     (at_least_one n ns k form a h q, λ w c. never_both n ns k form h q w.0 w.1 c.0 c.1 c.2)
+
+-- a right combination excludes a wall form
+pub no_wall : (d : ℕ) (ns : List (List ℤ)) (k : ℕ) (form : List ℤ) (v : Verdict) → k < length ns → IsPositiveAt form ns → IsRightVerdict d ns k v → IsNoWall d ns k v
+no_wall d ns k form (wall w) h p r = tt
+no_wall d ns k form (combination factor terms) h p r = λ w.
+    never_both (numbers_of_form d) ns k form h (above_all form ns p) w.0 w.1 factor terms (record {
+      some = r.some;
+      ascending = r.ascending;
+      within = r.within;
+      other = r.other;
+      positive = r.positive;
+      sum = r.sum;
+    })

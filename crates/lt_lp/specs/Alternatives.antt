@@ -5,7 +5,8 @@ use Rattle.std.specs.List.Sorted.{IsStrictlySortedBy}
 use Rattle.std.specs.Ordering.{nat_cmp}
 use Rattle.lt_model.specs.Vectors.{scale, dot, combine}
 use Rattle.lt_model.specs.Simplices.{AllOfDimension}
-use Rattle.lt_model.specs.Cones.{coefficients, places}
+use Rattle.lt_model.specs.Forms.{numbers_of_form}
+use Rattle.lt_model.specs.Cones.{Verdict, wall, combination, coefficients, places}
 use Rattle.lt_lp.specs.Positive.{IsPositiveAt}
 
 -- the k-th normal is 0 at the form of n numbers, and each other one is positive
@@ -34,3 +35,8 @@ abbrev pub EveryPlaceHasOneAlternative : Type 0
 EveryPlaceHasOneAlternative =
     (n : ℕ) (ns : List (List ℤ)) (k : ℕ) (form : List ℤ) → AllOfDimension n ns → k < length ns → IsPositiveAt form ns →
     (HasWallForm n ns k ⊎ IsCombined ns k) × (HasWallForm n ns k → IsCombined ns k → ⊥)
+
+-- a combination for the k-th normal says that it has no wall form
+abbrev pub IsNoWall : ℕ → List (List ℤ) → ℕ → Verdict → Type 0
+IsNoWall d ns k (wall w) = Unit
+IsNoWall d ns k (combination factor terms) = HasWallForm (numbers_of_form d) ns k → ⊥

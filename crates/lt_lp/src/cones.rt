@@ -1,6 +1,6 @@
 //! The facets among the rows of a cone.
 
-ghost use Rattle.std.specs.Prelude.{◌≡◌, ◌<◌, ◌≤◌, length, get_or, []};
+ghost use Rattle.std.specs.Prelude.{◌≡◌, ◌<◌, ◌≤◌, true, length, get_or, []};
 ghost use Rattle.lt_model.specs.Atlases.{facets_of};
 ghost use Rattle.lt_lp.specs.Facets.{has_wall, wall_rows};
 
@@ -45,6 +45,7 @@ impl Cone {
         requires { i < length (facets_of self.now.rows) }
         ensures row { result.now ≡ get_or (wall_rows self.now.rows) i result.now }
         ensures normal { result.now.normal ≡ get_or (facets_of self.now.rows) i [] }
+        ensures wall { has_wall result.now.verdict ≡ true }
     {
         let mut left = i;
         for k in 0..self.rows.len() {

@@ -5,6 +5,7 @@ ghost use Rattle.std.specs.List.{All};
 ghost use Rattle.lt_model.specs.Cones.{IsRightVerdict};
 ghost use Rattle.lt_model.specs.Limits.{weight, weight_limit};
 ghost use Rattle.lt_tableau.specs.Errors.{AreOfDimension};
+ghost use Rattle.lt_lp.specs.Alternatives.{IsNoWall};
 ghost use Rattle.lt_lp.specs.Verdicts.{verdict_of, IsHeavyLp};
 ghost use Rattle.lt_lp.specs.Positive.{IsPositiveAt};
 
@@ -24,6 +25,7 @@ pub fn decide(alloc: Global, normals: &[Normal], k: usize) -> Result<Verdict, Lp
     requires same { All (λ x. length x ≡ length (get_or normals.now 0 [])) normals.now }
     requires positive { (form : List ℤ) × IsPositiveAt form normals.now }
     ensures right { IfOk result (λ v. (d : ℕ) → AreOfDimension d normals.now → IsRightVerdict d normals.now k (verdict_of v)) }
+    ensures alone { IfOk result (λ v. (d : ℕ) → AreOfDimension d normals.now → IsNoWall d normals.now k (verdict_of v)) }
     ensures light { IfOk result (λ _. (d : ℕ) → AreOfDimension d normals.now → weight d normals.now < weight_limit) }
     ensures heavy { IfErr result (λ e. (d : ℕ) → AreOfDimension d normals.now → IsHeavyLp (weight d normals.now) e) }
 {

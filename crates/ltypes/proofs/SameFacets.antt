@@ -6,7 +6,7 @@ use Rattle.lt_model.specs.Cones.{Verdict, wall, combination, Row, Cone, IsRightC
 use Rattle.lt_model.specs.Atlases.{facets_of, facet_if}
 use Rattle.lt_model.proofs.Sets.{number_list_cmp_total}
 use Rattle.lt_lp.specs.Facets.{has_wall}
-use Rattle.lt_core.proofs.ConeFacets.{one_place, IsWallRow, wall_row, row_of_wall, facets_exact, normals_at}
+use Rattle.lt_lp.proofs.ConeFacets.{one_place, IsWallRow, wall_row, row_of_wall, facets_exact, normals_at}
 use Rattle.lt_regulator.proofs.Distinct.{one_list}
 
 wall_of : (v : Verdict) → has_wall v ≡ true → (w : List ℤ) × (v ≡ wall w)

@@ -25,10 +25,6 @@ use Rattle.lt_cone.proofs.RightCones.{rows_ready}
 use Rattle.lt_cone.proofs.checks.check_cone.Goals.{After-as_slice-2, After-first_wrong-wrong, After-dimension, After-form_of}
 use Rattle.lt_cone.proofs.checks.check_cone.Goals as goal
 
--- a fault of one list of the regulators is one of each
-of_each : (d : ℕ) (t : List (List (List ℤ))) (ns : List (List ℤ)) (cone : Cone) (e : ConeFault) → AreRegulators d t ns → IsFault d ns cone e → (ms : List (List ℤ)) → AreRegulators d t ms → IsFault d ms cone e
-of_each d t ns cone e r f ms s = subst (λ (xs : List (List ℤ)). IsFault d xs cone e) (one_list d t ns ms r s) f
-
 moved : (P : List (List ℤ) → List Row → Type 0) (ns ms : List (List ℤ)) (rows others : List Row) → ns ≡ ms → rows ≡ others → P ns rows → P ms others
 moved P ns ms rows others e f p = subst (P ms) f (subst (λ (xs : List (List ℤ)). P xs rows) e p)
 
@@ -54,7 +50,7 @@ returns-then-weight-clause-wrong c =
     let ns = c.in-Ok.normals.items in
     let all = regulator_lengths d c.requires.0 c.args.t.now ns c.requires.1 c.in-Ok.ensures in
     let w : c.weight.result ≡ pos (weight d ns) = rw (c.as_slice.ensures.value) at (c.weight.ensures d (rw (c.as_slice.ensures.value) all)) in
-    of_each d c.args.t.now ns c.args.cone.now (Wrong (c.len-count.result + 1)) c.in-Ok.ensures (inl (heavy (weight d ns) (told (weight d ns) c.weight.result true (small d ns) w c.if-weight.true), ap (λ (m : ℕ). m + 1) (c.len-count.ensures ∙ c.in-Ok.normals.ok.0)))
+    (ns, c.in-Ok.ensures, inl (heavy (weight d ns) (told (weight d ns) c.weight.result true (small d ns) w c.if-weight.true), ap (λ (m : ℕ). m + 1) (c.len-count.ensures ∙ c.in-Ok.normals.ok.0)))
 
 -- the weight of the regulators where the rows are looked at
 light_there : (c : After-as_slice-2) → weight (dimension_of c.args.t.now) c.in-Ok.normals.items < weight_limit
@@ -95,7 +91,7 @@ returns-then-wrong-count-clause-wrong c =
     let l : c.first_wrong-wrong.result < length ns = rw (count_is w) at c.if-wrong-count.true in
     let n = moved (λ (xs : List (List ℤ)) (rows : List Row). c.first_wrong-wrong.result < length xs → IsRowOf d xs rows c.first_wrong-wrong.result → ⊥) c.as_slice-2.result.now ns c.as_slice-rows.result.now c.args.cone.now.rows c.as_slice-2.ensures.value (rows_are w)
     (c.first_wrong-wrong.ensures.wrong d (rw (c.as_slice-2.ensures.value) all)) in
-    of_each d c.args.t.now ns c.args.cone.now (Wrong c.first_wrong-wrong.result) c.in-Ok.ensures (inr (inl (light_there (goal.at.returns-then-wrong-count-clause-wrong c).After-as_slice-2, l, before w, n l)))
+    (ns, c.in-Ok.ensures, inr (inl (light_there (goal.at.returns-then-wrong-count-clause-wrong c).After-as_slice-2, l, before w, n l)))
 
 -- all places below the number of the regulators are right
 right_all : (c : After-first_wrong-wrong) → c.len-count.result ≤ c.first_wrong-wrong.result → (k : ℕ) → k < c.len-count.result → IsRowOf (dimension_of c.args.t.now) c.in-Ok.normals.items c.args.cone.now.rows k
@@ -107,13 +103,16 @@ returns-then-rows-count-clause-wrong c =
     let ns = c.in-Ok.normals.items in
     let w = (goal.at.returns-then-rows-count-clause-wrong c).After-first_wrong-wrong in
     let more : c.len-count.result < length c.args.cone.now.rows = rw (rows_are w) at c.if-rows-count.true in
-    let n = count_is w in
-    of_each d c.args.t.now ns c.args.cone.now (Wrong c.len-count.result) c.in-Ok.ensures (inr (inr (
-      light_there (goal.at.returns-then-rows-count-clause-wrong c).After-as_slice-2,
-      n,
-      right_all w c.if-wrong-count.false,
-      λ p. (let m = p.0 in absurd (omega (arith, more, m, n))),
-    )))
+    let n = count_is w in (
+      ns,
+      c.in-Ok.ensures,
+      inr (inr (
+        light_there (goal.at.returns-then-rows-count-clause-wrong c).After-as_slice-2,
+        n,
+        right_all w c.if-wrong-count.false,
+        λ p. (let m = p.0 in absurd (omega (arith, more, m, n))),
+      )),
+    )
 
 at_least : (n m : ℕ) → ((k : ℕ) → k < n → k < m) → n ≤ m
 at_least zero m h = omega arith
@@ -164,13 +163,16 @@ returns-then-ne-clause-wrong c =
     let ns = c.in-Ok.normals.items in
     let w = (goal.at.returns-then-ne-clause-wrong c).After-first_wrong-wrong in
     let r = reduced (goal.at.returns-then-ne-clause-wrong c).After-form_of c.args.cone.now.rows (rows_are w) in
-    let form : c.cone.inside.form ≡ c.args.cone.now.form = ap (λ (x : Cone). x.form) c.cone.view_is in
-    of_each d c.args.t.now ns c.args.cone.now (Wrong c.len-count.result) c.in-Ok.ensures (inr (inr (
-      light_there (goal.at.returns-then-ne-clause-wrong c).After-as_slice-2,
-      count_is w,
-      right_all w c.if-wrong-count.false,
-      λ p. absurd (false≢true (sym (not-true _ (sym c.if-ne.ensures)) ∙ (signed_items c.cone.inside.form c.form_of.result).1 (form ∙ one_form (sum_of_walls c.args.cone.now.rows) c.args.cone.now.form c.form_of.result p.1 r))),
-    )))
+    let form : c.cone.inside.form ≡ c.args.cone.now.form = ap (λ (x : Cone). x.form) c.cone.view_is in (
+      ns,
+      c.in-Ok.ensures,
+      inr (inr (
+        light_there (goal.at.returns-then-ne-clause-wrong c).After-as_slice-2,
+        count_is w,
+        right_all w c.if-wrong-count.false,
+        λ p. absurd (false≢true (sym (not-true _ (sym c.if-ne.ensures)) ∙ (signed_items c.cone.inside.form c.form_of.result).1 (form ∙ one_form (sum_of_walls c.args.cone.now.rows) c.args.cone.now.form c.form_of.result p.1 r))),
+      )),
+    )
 
 pub returns-clause-right : goal.returns-clause-right
 returns-clause-right c =

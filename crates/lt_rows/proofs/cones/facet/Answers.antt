@@ -3,7 +3,7 @@ use Rattle.std.proofs.lemmas.List.{get_or_default}
 use Rattle.lt_model.specs.Cones.{Row}
 use Rattle.lt_model.specs.Atlases.{facets_of}
 use Rattle.lt_triang.specs.Kept.{dimension_of}
-use Rattle.lt_core.proofs.ConeFacets.{facets_exact}
+use Rattle.lt_lp.proofs.ConeFacets.{facets_exact}
 use Rattle.lt_rows.proofs.cones.facet.Goals as goal
 
 pub returns : goal.returns

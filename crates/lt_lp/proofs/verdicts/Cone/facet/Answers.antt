@@ -10,8 +10,9 @@ returns-then-left-eq0 c =
     let h : c.loop-k.k < length c.args.self.now.rows = rw (sym v) (omega (arith, c.loop-k-test.true, c.len-k-end.ensures, c.self.inside.rows.ok.0)) in
     let e : c.index-row.result.now ≡ get_or c.args.self.now.rows c.loop-k.k c.index-row.result.now = rw (sym v) c.index-row.ensures in
     let i : walls c.loop-k.k c.args.self.now.rows ≡ c.args.i = omega (arith, c.loop-k.invariant, c.if-left-eq0.true) in
-    let f : IsFacetRow c.args.self.now.rows c.index-row.result.now c.args.i = subst (λ (n : ℕ). IsFacetRow c.args.self.now.rows c.index-row.result.now n) i (facet_row c.args.self.now.rows c.loop-k.k c.index-row.result.now h e (sym c.is_facet.ensures ∙ c.if-is_facet.true)) in
-    record { row = f.row; normal = f.normal }
+    let w = sym c.is_facet.ensures ∙ c.if-is_facet.true in
+    let f : IsFacetRow c.args.self.now.rows c.index-row.result.now c.args.i = subst (λ (n : ℕ). IsFacetRow c.args.self.now.rows c.index-row.result.now n) i (facet_row c.args.self.now.rows c.loop-k.k c.index-row.result.now h e w) in
+    record { row = f.row; normal = f.normal; wall = w }
 
 pub loop-k-preserved : goal.loop-k-preserved
 loop-k-preserved c =

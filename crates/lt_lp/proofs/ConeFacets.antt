@@ -1,5 +1,5 @@
 -- The normals of the wall rows of a right cone are exactly the facets.
-use Rattle.std.proofs.Common.{◌≡◌, ◌≢◌, ◌↔◌, ℕ, zero, suc, ℤ, pos, ◌*ℤ◌, ◌<ℤ◌, ◌≤ℤ◌, ◌<◌, refl, ap, arith, sym, ◌∙◌, subst, List, [], ◌∷◌, length, get_or, map, inl, inr}
+use Rattle.std.proofs.Common.{◌≡◌, ◌≢◌, ◌↔◌, ℕ, zero, suc, ℤ, pos, ◌*ℤ◌, ◌<ℤ◌, ◌≤ℤ◌, ◌<◌, Bool, true, false, refl, ap, arith, sym, ◌∙◌, subst, List, [], ◌∷◌, length, get_or, map, inl, inr}
 use Rattle.std.proofs.lemmas.Int.{ints}
 use Rattle.std.proofs.lemmas.List.{length-map, get_or_default}
 use Rattle.std.specs.List.{Contains, AllByRecursion}
@@ -12,6 +12,7 @@ use Rattle.lt_model.specs.Vectors.{scale, dot, IsPrimitive}
 use Rattle.lt_model.specs.Walls.{IsRegulator, IsWallForm, IsFacet}
 use Rattle.lt_model.specs.Cones.{Verdict, wall, combination, Row, Cone, normals, coefficients, places, IsRightWall, IsRightCombination, IsRightVerdict, IsRightCone}
 use Rattle.lt_model.specs.Atlases.{facet_if, facets_of}
+use Rattle.lt_lp.specs.Facets.{has_wall}
 use Rattle.lt_model.proofs.Vectors.{dot_comm, dot-scale}
 use Rattle.lt_model.proofs.Excess.{dot-combine}
 use Rattle.lt_model.proofs.Walk.{mul-positive}
@@ -192,3 +193,17 @@ module _ (d : ℕ) (t : List (List (List ℤ))) (c : Cone) (h : IsRightCone d t 
   -- the facets are the normals of the wall rows
   pub facets_exact : (n : List ℤ) → IsFacet d t n ↔ Contains (facets_of c.rows) n
   facets_exact n = (to_wall n, from_wall n)
+
+  -- a normal has a wall form exactly where its row has one
+  pub rows_exact : (k : ℕ) (r : Row) → k < length c.rows → (has_wall (get_or c.rows k r).verdict ≡ true) ↔ IsFacet d t (get_or c.rows k r).normal
+  rows_exact k r l = (λ e. from_wall (get_or c.rows k r).normal (walled (get_or c.rows k r).verdict refl e), λ f. walls f (get_or c.rows k r).verdict refl)
+    where
+      walled : (v : Verdict) → (get_or c.rows k r).verdict ≡ v → has_wall v ≡ true → Contains (facets_of c.rows) (get_or c.rows k r).normal
+      walled (wall x) e h = row_of_wall c.rows k r x l e
+      walled (combination factor terms) e h = cc
+
+      walls : IsFacet d t (get_or c.rows k r).normal → (v : Verdict) → (get_or c.rows k r).verdict ≡ v → has_wall v ≡ true
+      walls f (wall x) e = refl
+      walls f (combination factor terms) e =
+          let lc = count in
+          absurd (no_combination (get_or c.rows k r).normal f.0 f.1 k (omega arith) (normals_at c.rows k r l) factor terms (subst (λ (v : Verdict). IsRightVerdict d ns k v) e (h.verdicts k r l)))
