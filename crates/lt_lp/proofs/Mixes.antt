@@ -15,13 +15,13 @@ use Rattle.lt_tableau.specs.Numbers.{sum_below, column_at}
 use Rattle.lt_tableau.specs.System.{system_of, counted, normal_column, turned_column, plain_column, unit_column}
 use Rattle.lt_tableau.specs.Table.{Table, IsTableau, right_of, basic_of, count_of, units_of}
 use Rattle.lt_tableau.proofs.Sums.{sum_more, sum_same, sum_zero, sum_own, lookup_none, lookup_scale, unit_same, unit_other}
-use Rattle.lt_tableau.proofs.Starts.{length-system, removed_length}
+use Rattle.lt_tableau.proofs.Starts.{length-system, removed_length, system_right}
 use Rattle.lt_lp.specs.Rule.{objective_of, IsReady}
 use Rattle.lt_lp.specs.Terms.{value_of}
 use Rattle.lt_lp.proofs.Falls.{sum_small}
 use Rattle.lt_lp.proofs.Columns.{sum_below_swap, sum_below_scale, filled_in}
 use Rattle.lt_lp.proofs.Values.{value_law, values_not_negative, unit_values}
-use Rattle.lt_lp.proofs.WallSigns.{system_right, append_zero, at_normals}
+use Rattle.lt_lp.proofs.WallSigns.{append_zero, at_normals}
 
 pub value_small : (t : Table) → IsTableau t → (c : ℕ) → nat_abs (value_of t c) ≤ 22 * 2 ^ 56
 value_small t w c = at_most t.rows (sum_small t.rows (2 ^ 56) (λ (row : ℕ). cond (nat_eq (basic_of t row) c) (right_of t row) (pos 0)) (λ q. pick (nat_eq (basic_of t q) c) (right_of t q) (w.small q (count_of t)))) w.few_rows

@@ -5,10 +5,9 @@ use Rattle.lt_tableau.specs.Numbers.{column_at}
 use Rattle.lt_tableau.specs.Table.{Table, IsTableau, entry_of}
 use Rattle.lt_tableau.specs.System.{system_of, unit_column}
 use Rattle.lt_tableau.specs.Kept.{IsStart}
-use Rattle.lt_tableau.proofs.Starts.{system_starts}
+use Rattle.lt_tableau.proofs.Starts.{system_starts, system_right}
 use Rattle.lt_lp.specs.Rule.{IsReady}
 use Rattle.lt_lp.proofs.Leaves.{ready_start}
-use Rattle.lt_lp.proofs.WallSigns.{system_right}
 
 pub system_ready : (t : Table) (normals : List (List ℤ)) (k n : ℕ) → IsTableau t → k < length normals → n ≤ 21 → ((j : ℕ) → j < length normals → length (column_at normals j) ≡ n) →
     t.system ≡ system_of normals k → t.rows ≡ suc n → ((row column : ℕ) → entry_of t row column ≡ lookup (column_at t.system column) row) → IsReady t

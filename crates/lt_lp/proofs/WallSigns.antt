@@ -1,5 +1,5 @@
 -- The wall form of a stopped tableau, before it is made primitive: minus the sums of the unit columns.
-use Rattle.std.proofs.Common.{◌≡◌, ◌≢◌, refl, sym, ◌∙◌, ap, ℕ, zero, suc, ◌+◌, ◌-◌, ◌≤◌, ◌<◌, ℤ, pos, negsuc, ◌+ℤ◌, ◌*ℤ◌, ◌≤ℤ◌, ◌<ℤ◌, arith, List, [], ◌∷◌, ◌++◌, map, length, get_or}
+use Rattle.std.proofs.Common.{◌≡◌, ◌≢◌, refl, sym, ◌∙◌, ap, ℕ, zero, suc, ◌+◌, ◌-◌, ◌≤◌, ◌<◌, ℤ, pos, negsuc, ◌+ℤ◌, ◌*ℤ◌, ◌≤ℤ◌, ◌<ℤ◌, arith, List, [], ◌∷◌, ◌++◌, map, length}
 use Rattle.std.specs.Prelude.{remove}
 use Rattle.std.proofs.lemmas.Int.{ints}
 use Rattle.std.proofs.lemmas.List.{length-map, get_or-append-add}
@@ -18,9 +18,7 @@ use Rattle.lt_tableau.proofs.Sums.{lookup_scale}
 use Rattle.lt_tableau.proofs.Sums.{sum_same, sum_zero, lookup_none}
 use Rattle.lt_lp.proofs.Columns.{filled_in}
 use Rattle.lt_model.proofs.Squares.{length-scale}
-use Rattle.lt_tableau.proofs.Starts.{length-system}
-use Rattle.lt_tableau.proofs.Kept.{length-counted}
-use Rattle.std.proofs.Math.Seq.{get_or-append_seam}
+use Rattle.lt_tableau.proofs.Starts.{length-system, system_right}
 use Rattle.lt_lp.proofs.Signs.{gain_law, objective_last, pairing, wall_others}
 
 pub dot_listed : (m : ℕ) (y : ℕ → ℤ) (x : List ℤ) → dot (listed m y) x ≡ sum_below m (λ (q : ℕ). y q *ℤ lookup x q)
@@ -79,18 +77,6 @@ column_of_place normals k i h l n = pick (dec_le k i)
         let e = length-remove normals k h in
         let f = get_or-remove_below normals k [] i (omega arith) h in
         (i, omega arith, at_normals (remove normals k) _ i (omega arith) ∙ ap normal_column f)
-
-pub system_right : (normals : List (List ℤ)) (k : ℕ) → k < length normals → column_at (system_of normals k) (suc (length normals) + suc (length (get_or normals k []))) ≡ unit_column (length (get_or normals k []))
-system_right normals k h =
-    let x = get_or normals k [] in
-    let xs = map normal_column (remove normals k) in
-    let us = map unit_column (counted 0 (suc (length x))) in
-    let e = length-remove normals k h in
-    let f : length xs ≡ length (remove normals k) = length-map (remove normals k) normal_column in
-    let m : length us ≡ length (counted 0 (suc (length x))) = length-map (counted 0 (suc (length x))) unit_column in
-    let n = length-counted 0 (suc (length x)) in
-    let g : suc (length normals) + suc (length x) ≡ length xs + suc (suc (length us)) = omega arith in
-    rw g (get_or-append-add xs (turned_column x ∷ plain_column x ∷ (us ++ unit_column (length x) ∷ [])) (suc (suc (length us))) [] ∙ get_or-append_seam us (unit_column (length x)) [] [])
 
 pub append_zero : (x : List ℤ) (q : ℕ) → lookup (x ++ pos 0 ∷ []) q ≡ lookup x q
 append_zero [] zero = refl

@@ -3,7 +3,7 @@
 ghost use Rattle.std.specs.Prelude.{◌≡◌, ◌≢◌, ◌≤◌, ◌<◌, ◌-◌, ◌^◌, ℕ, suc, pos, ◌<ℤ◌, ◌≤ℤ◌, [], length, get_or, true, false, IfSome, IfNone, IfOk, IfErr, nat_abs};
 ghost use Rattle.std.specs.List.{All};
 ghost use Rattle.lt_model.specs.Limits.{weight, weight_limit};
-ghost use Rattle.lt_tableau.specs.Table.{IsTableau, entry_of, units_of};
+ghost use Rattle.lt_tableau.specs.Table.{IsTableau, count_of, entry_of, units_of};
 ghost use Rattle.lt_tableau.specs.System.{system_of};
 ghost use Rattle.lt_tableau.specs.Errors.{AreOfDimension, IsHeavyError};
 ghost use Rattle.lt_lp.specs.Rule.{objective_of, gain_of, number_of, IsBefore, IsLeaving, IsReady, IsStopped, IsEarlier};
@@ -46,9 +46,22 @@ fn number(t: &Tableau, row: usize, place: usize) -> i128
     }
 }
 
+/// The numbers of the column, which each step of the rule compares.
+fn numbers_of(t: &Tableau, column: usize) -> [i128; 22]
+    requires { column < count_of t.now }
+    ensures { (row : ℕ) → row < t.now.rows → get_or result row (pos 0) ≡ entry_of t.now row column }
+{
+    let mut numbers = [0i128; 22];
+    for row in 0..t.rows() {
+        numbers[row] = t.entry(row, column);
+    }
+    numbers
+}
+
 /// Whether the list of the row `a`, over its number in the column, is lexicographically less than that of the row `b`.
-fn is_before(t: &Tableau, column: usize, a: usize, b: usize) -> bool
+fn is_before(t: &Tableau, numbers: &[i128; 22], column: usize, a: usize, b: usize) -> bool
     requires inside { column < units_of t.now }
+    requires values { (row : ℕ) → row < t.now.rows → get_or numbers.now row (pos 0) ≡ entry_of t.now row column }
     requires a_in { a < t.now.rows }
     requires b_in { b < t.now.rows }
     requires different { a ≢ b }
@@ -57,9 +70,10 @@ fn is_before(t: &Tableau, column: usize, a: usize, b: usize) -> bool
     ensures yes { result ≡ true → IsBefore t.now column a b }
     ensures no { result ≡ false → IsBefore t.now column b a }
 {
-    let over_a = t.entry(a, column);
-    let over_b = t.entry(b, column);
-    for place in 0..t.rows() + 1 {
+    let rows = t.rows();
+    let over_a = numbers[a];
+    let over_b = numbers[b];
+    for place in 0..rows + 1 {
         let left = number(t, a, place) * over_b;
         let right = number(t, b, place) * over_a;
         if left < right {
@@ -73,20 +87,23 @@ fn is_before(t: &Tableau, column: usize, a: usize, b: usize) -> bool
 }
 
 /// The one of the two rows that leaves before the other.
-fn earlier(t: &Tableau, column: usize, row: usize, best: usize) -> usize
+fn earlier(t: &Tableau, numbers: &[i128; 22], column: usize, row: usize, best: usize) -> usize
     requires inside { column < units_of t.now }
+    requires values { (row : ℕ) → row < t.now.rows → get_or numbers.now row (pos 0) ≡ entry_of t.now row column }
     requires row_in { row < t.now.rows }
     requires best_in { best < t.now.rows }
     requires positive { pos 0 <ℤ entry_of t.now best column }
     ensures { IsEarlier t.now column row best result }
 {
+    // It shows that there are few rows.
+    let _ = t.rows();
     if row == best {
         return best;
     }
-    if t.entry(row, column) <= 0 {
+    if numbers[row] <= 0 {
         return best;
     }
-    if is_before(t, column, row, best) {
+    if is_before(t, numbers, column, row, best) {
         row
     } else {
         best
@@ -94,15 +111,16 @@ fn earlier(t: &Tableau, column: usize, row: usize, best: usize) -> usize
 }
 
 /// The first row whose number in the column is positive.
-fn first_positive(t: &Tableau, column: usize) -> usize
+fn first_positive(t: &Tableau, numbers: &[i128; 22], column: usize) -> usize
     requires inside { column < units_of t.now }
+    requires values { (row : ℕ) → row < t.now.rows → get_or numbers.now row (pos 0) ≡ entry_of t.now row column }
     requires gains { pos 0 <ℤ gain_of t.now column }
     ensures row_in { result < t.now.rows }
     ensures positive { pos 0 <ℤ entry_of t.now result column }
     ensures first { (row : ℕ) → row < result → entry_of t.now row column ≤ℤ pos 0 }
 {
     for row in 0..t.rows() {
-        if t.entry(row, column) > 0 {
+        if numbers[row] > 0 {
             return row;
         }
     }
@@ -115,9 +133,10 @@ fn leaving(t: &Tableau, column: usize) -> usize
     requires gains { pos 0 <ℤ gain_of t.now column }
     ensures { IsLeaving t.now column result }
 {
-    let mut best = first_positive(t, column);
+    let numbers = numbers_of(t, column);
+    let mut best = first_positive(t, &numbers, column);
     for row in 0..t.rows() {
-        best = earlier(t, column, row, best);
+        best = earlier(t, &numbers, column, row, best);
     }
     best
 }

@@ -1,4 +1,4 @@
-use Rattle.std.proofs.Common.{◌≡◌, sym, ◌<◌, ◌^◌, ◌*ℤ◌, ◌<ℤ◌, nat_abs, arith, rules, FitsSigned}
+use Rattle.std.proofs.Common.{◌≡◌, sym, ◌<◌, ◌^◌, ◌*ℤ◌, ◌<ℤ◌, nat_abs, pos, get_or, arith, rules, FitsSigned}
 use Rattle.std.specs.Int.{w128}
 use Rattle.std.proofs.lemmas.Int.{ints, to_z-of_z}
 use Rattle.lt_lp.proofs.Loops.{product_fits_both, tied_more}
@@ -8,69 +8,69 @@ use Rattle.lt_lp.proofs.rule.is_before.Goals as goal
 pub overflow_mul-left : goal.overflow_mul-left
 overflow_mul-left c =
     let x : FitsSigned w128 c.number.result = search rules in
-    let y : FitsSigned w128 c.entry-over_b.result = search rules in
-    let s : nat_abs c.entry-over_b.result < 2 ^ 56 = rw c.entry-over_b.ensures (c.rows-place-end.ensures.tableau.small c.args.b c.args.column) in
-    simp to_z-of_z (product_fits_both c.number.result c.entry-over_b.result c.number.ensures.small s)
+    let y : FitsSigned w128 (get_or c.args.numbers.now c.args.b (pos 0)) = search rules in
+    let s : nat_abs (get_or c.args.numbers.now c.args.b (pos 0)) < 2 ^ 56 = rw (c.requires.values c.args.b c.requires.b_in) (c.rows-rows.ensures.tableau.small c.args.b c.args.column) in
+    simp to_z-of_z (product_fits_both c.number.result (get_or c.args.numbers.now c.args.b (pos 0)) c.number.ensures.small s)
 
 pub overflow_mul-right : goal.overflow_mul-right
 overflow_mul-right c =
     let x : FitsSigned w128 c.number-in-loop-place.result = search rules in
-    let y : FitsSigned w128 c.entry-over_a.result = search rules in
-    let s : nat_abs c.entry-over_a.result < 2 ^ 56 = rw c.entry-over_a.ensures (c.rows-place-end.ensures.tableau.small c.args.a c.args.column) in
-    simp to_z-of_z (product_fits_both c.number-in-loop-place.result c.entry-over_a.result c.number-in-loop-place.ensures.small s)
+    let y : FitsSigned w128 (get_or c.args.numbers.now c.args.a (pos 0)) = search rules in
+    let s : nat_abs (get_or c.args.numbers.now c.args.a (pos 0)) < 2 ^ 56 = rw (c.requires.values c.args.a c.requires.a_in) (c.rows-rows.ensures.tableau.small c.args.a c.args.column) in
+    simp to_z-of_z (product_fits_both c.number-in-loop-place.result (get_or c.args.numbers.now c.args.a (pos 0)) c.number-in-loop-place.ensures.small s)
 
 pub unreachable-requires : goal.unreachable-requires
 unreachable-requires c =
-    no_tie c.args.t.now c.args.column c.args.a c.args.b c.rows-place-end.ensures.tableau c.requires.a_in c.requires.b_in c.requires.different c.requires.positive_b
-    (λ m l. (let v = c.rows-place-end.ensures.value in let o = c.loop-place-test.false in c.loop-place.invariant m (omega arith)))
+    no_tie c.args.t.now c.args.column c.args.a c.args.b c.rows-rows.ensures.tableau c.requires.a_in c.requires.b_in c.requires.different c.requires.positive_b
+    (λ m l. (let v = c.rows-rows.ensures.value in let o = c.loop-place-test.false in c.loop-place.invariant m (omega arith)))
 
 pub returns-then-left-right-clause-yes : goal.returns-then-left-right-clause-yes
 returns-then-left-right-clause-yes c = λ _.
     let x : FitsSigned w128 c.number.result = search rules in
-    let y : FitsSigned w128 c.entry-over_b.result = search rules in
+    let y : FitsSigned w128 (get_or c.args.numbers.now c.args.b (pos 0)) = search rules in
     let z : FitsSigned w128 c.number-in-loop-place.result = search rules in
-    let w : FitsSigned w128 c.entry-over_a.result = search rules in
-    let p : FitsSigned w128 (c.number.result *ℤ c.entry-over_b.result) = product_fits_both c.number.result c.entry-over_b.result c.number.ensures.small (rw c.entry-over_b.ensures (c.rows-place-end.ensures.tableau.small c.args.b c.args.column)) in
-    let q : FitsSigned w128 (c.number-in-loop-place.result *ℤ c.entry-over_a.result) = product_fits_both c.number-in-loop-place.result c.entry-over_a.result c.number-in-loop-place.ensures.small (rw c.entry-over_a.ensures (c.rows-place-end.ensures.tableau.small c.args.a c.args.column)) in
+    let w : FitsSigned w128 (get_or c.args.numbers.now c.args.a (pos 0)) = search rules in
+    let p : FitsSigned w128 (c.number.result *ℤ (get_or c.args.numbers.now c.args.b (pos 0))) = product_fits_both c.number.result (get_or c.args.numbers.now c.args.b (pos 0)) c.number.ensures.small (rw (c.requires.values c.args.b c.requires.b_in) (c.rows-rows.ensures.tableau.small c.args.b c.args.column)) in
+    let q : FitsSigned w128 (c.number-in-loop-place.result *ℤ (get_or c.args.numbers.now c.args.a (pos 0))) = product_fits_both c.number-in-loop-place.result (get_or c.args.numbers.now c.args.a (pos 0)) c.number-in-loop-place.ensures.small (rw (c.requires.values c.args.a c.requires.a_in) (c.rows-rows.ensures.tableau.small c.args.a c.args.column)) in
     let k = simp to_z-of_z at c.if-left-right.true in
-    let l : (c.number.result *ℤ c.entry-over_b.result) <ℤ (c.number-in-loop-place.result *ℤ c.entry-over_a.result) = omega (arith, ints) in
+    let l : (c.number.result *ℤ (get_or c.args.numbers.now c.args.b (pos 0))) <ℤ (c.number-in-loop-place.result *ℤ (get_or c.args.numbers.now c.args.a (pos 0))) = omega (arith, ints) in
     let o = c.loop-place-test.true in
-    let v = c.rows-place-end.ensures.value in
+    let v = c.rows-rows.ensures.value in
     record {
       at = c.loop-place.place;
       at_in = omega arith;
-      less = rw (c.number.ensures.value, c.entry-over_b.ensures, c.number-in-loop-place.ensures.value, c.entry-over_a.ensures) at l;
+      less = rw (c.number.ensures.value, c.requires.values c.args.b c.requires.b_in, c.number-in-loop-place.ensures.value, c.requires.values c.args.a c.requires.a_in) at l;
       before = c.loop-place.invariant;
     }
 
 pub returns-then-right-left-clause-no : goal.returns-then-right-left-clause-no
 returns-then-right-left-clause-no c = λ _.
     let x : FitsSigned w128 c.number.result = search rules in
-    let y : FitsSigned w128 c.entry-over_b.result = search rules in
+    let y : FitsSigned w128 (get_or c.args.numbers.now c.args.b (pos 0)) = search rules in
     let z : FitsSigned w128 c.number-in-loop-place.result = search rules in
-    let w : FitsSigned w128 c.entry-over_a.result = search rules in
-    let p : FitsSigned w128 (c.number.result *ℤ c.entry-over_b.result) = product_fits_both c.number.result c.entry-over_b.result c.number.ensures.small (rw c.entry-over_b.ensures (c.rows-place-end.ensures.tableau.small c.args.b c.args.column)) in
-    let q : FitsSigned w128 (c.number-in-loop-place.result *ℤ c.entry-over_a.result) = product_fits_both c.number-in-loop-place.result c.entry-over_a.result c.number-in-loop-place.ensures.small (rw c.entry-over_a.ensures (c.rows-place-end.ensures.tableau.small c.args.a c.args.column)) in
+    let w : FitsSigned w128 (get_or c.args.numbers.now c.args.a (pos 0)) = search rules in
+    let p : FitsSigned w128 (c.number.result *ℤ (get_or c.args.numbers.now c.args.b (pos 0))) = product_fits_both c.number.result (get_or c.args.numbers.now c.args.b (pos 0)) c.number.ensures.small (rw (c.requires.values c.args.b c.requires.b_in) (c.rows-rows.ensures.tableau.small c.args.b c.args.column)) in
+    let q : FitsSigned w128 (c.number-in-loop-place.result *ℤ (get_or c.args.numbers.now c.args.a (pos 0))) = product_fits_both c.number-in-loop-place.result (get_or c.args.numbers.now c.args.a (pos 0)) c.number-in-loop-place.ensures.small (rw (c.requires.values c.args.a c.requires.a_in) (c.rows-rows.ensures.tableau.small c.args.a c.args.column)) in
     let k = simp to_z-of_z at c.if-right-left.true in
-    let l : (c.number-in-loop-place.result *ℤ c.entry-over_a.result) <ℤ (c.number.result *ℤ c.entry-over_b.result) = omega (arith, ints) in
+    let l : (c.number-in-loop-place.result *ℤ (get_or c.args.numbers.now c.args.a (pos 0))) <ℤ (c.number.result *ℤ (get_or c.args.numbers.now c.args.b (pos 0))) = omega (arith, ints) in
     let o = c.loop-place-test.true in
-    let v = c.rows-place-end.ensures.value in
+    let v = c.rows-rows.ensures.value in
     record {
       at = c.loop-place.place;
       at_in = omega arith;
-      less = rw (c.number-in-loop-place.ensures.value, c.entry-over_a.ensures, c.number.ensures.value, c.entry-over_b.ensures) at l;
+      less = rw (c.number-in-loop-place.ensures.value, c.requires.values c.args.a c.requires.a_in, c.number.ensures.value, c.requires.values c.args.b c.requires.b_in) at l;
       before = λ m h. sym (c.loop-place.invariant m h);
     }
 
 pub loop-place-preserved : goal.loop-place-preserved
 loop-place-preserved c =
     let x : FitsSigned w128 c.number.result = search rules in
-    let y : FitsSigned w128 c.entry-over_b.result = search rules in
+    let y : FitsSigned w128 (get_or c.args.numbers.now c.args.b (pos 0)) = search rules in
     let z : FitsSigned w128 c.number-in-loop-place.result = search rules in
-    let w : FitsSigned w128 c.entry-over_a.result = search rules in
-    let p : FitsSigned w128 (c.number.result *ℤ c.entry-over_b.result) = product_fits_both c.number.result c.entry-over_b.result c.number.ensures.small (rw c.entry-over_b.ensures (c.rows-place-end.ensures.tableau.small c.args.b c.args.column)) in
-    let q : FitsSigned w128 (c.number-in-loop-place.result *ℤ c.entry-over_a.result) = product_fits_both c.number-in-loop-place.result c.entry-over_a.result c.number-in-loop-place.ensures.small (rw c.entry-over_a.ensures (c.rows-place-end.ensures.tableau.small c.args.a c.args.column)) in
+    let w : FitsSigned w128 (get_or c.args.numbers.now c.args.a (pos 0)) = search rules in
+    let p : FitsSigned w128 (c.number.result *ℤ (get_or c.args.numbers.now c.args.b (pos 0))) = product_fits_both c.number.result (get_or c.args.numbers.now c.args.b (pos 0)) c.number.ensures.small (rw (c.requires.values c.args.b c.requires.b_in) (c.rows-rows.ensures.tableau.small c.args.b c.args.column)) in
+    let q : FitsSigned w128 (c.number-in-loop-place.result *ℤ (get_or c.args.numbers.now c.args.a (pos 0))) = product_fits_both c.number-in-loop-place.result (get_or c.args.numbers.now c.args.a (pos 0)) c.number-in-loop-place.ensures.small (rw (c.requires.values c.args.a c.requires.a_in) (c.rows-rows.ensures.tableau.small c.args.a c.args.column)) in
     let k = simp to_z-of_z at c.if-right-left.false in
     let j = simp to_z-of_z at c.if-left-right.false in
-    let l : c.number.result *ℤ c.entry-over_b.result ≡ c.number-in-loop-place.result *ℤ c.entry-over_a.result = omega (arith, ints) in
-    tied_more c.args.t.now c.args.column c.args.a c.args.b c.loop-place.place c.loop-place.invariant (rw (c.number.ensures.value, c.entry-over_b.ensures, c.number-in-loop-place.ensures.value, c.entry-over_a.ensures) at l)
+    let l : c.number.result *ℤ (get_or c.args.numbers.now c.args.b (pos 0)) ≡ c.number-in-loop-place.result *ℤ (get_or c.args.numbers.now c.args.a (pos 0)) = omega (arith, ints) in
+    tied_more c.args.t.now c.args.column c.args.a c.args.b c.loop-place.place c.loop-place.invariant (rw (c.number.ensures.value, c.requires.values c.args.b c.requires.b_in, c.number-in-loop-place.ensures.value, c.requires.values c.args.a c.requires.a_in) at l)
