@@ -1,6 +1,6 @@
 //! Fingerprints of triangulations.
 
-ghost use Rattle.std.specs.Prelude.{◌≡◌, ◌<◌, ◌++◌, [], length, get_or, IfOk};
+ghost use Rattle.std.specs.Prelude.{◌≡◌, ◌<◌, ◌≤◌, ◌++◌, [], length, get_or, IfOk};
 ghost use Rattle.std.specs.List.Sorted.{IsPermutation, IsSorted};
 ghost use Rattle.lt_model.specs.Flat.{flat};
 ghost use Rattle.lt_model.specs.Order.{number_list_cmp};
@@ -16,7 +16,7 @@ use std::marker::Model;
 
 /// The signature of a class.
 #[derive(Drop, PartialEq, Eq, PartialOrd, Ord)]
-struct ClassSignature {
+pub struct ClassSignature {
     numbers: ArrayVec<i128, 56>,
 }
 
@@ -32,15 +32,17 @@ impl Model for ClassSignature {
 
 impl ClassSignature {
     /// The numbers.
-    fn numbers(&self) -> &[i128]
-        ensures { result.now ≡ self.now }
+    pub fn numbers(&self) -> &[i128]
+        ensures value { result.now ≡ self.now }
+        ensures few { length result.now ≤ 56 }
     {
         self.numbers.as_slice()
     }
 }
 
-/// The signatures of the classes, in the order of classes.
-fn class_signatures(alloc: Global, t: &Triangulation) -> Result<Vec<ClassSignature>, Memory>
+/// The signatures of the classes, in the order of classes. The triangulation is the Delaunay triangulation of some form. Memory where
+/// memory was refused.
+pub fn class_signatures(alloc: Global, t: &Triangulation) -> Result<Vec<ClassSignature>, Memory>
     requires { IsOfSomeForm t.now }
     ensures { IfOk result (λ all. AreClassSignatures (dimension_of t.now) t.now all.items) }
 {

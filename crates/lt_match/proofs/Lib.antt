@@ -13,4 +13,5 @@ pub mod Attempts
 pub mod Beginnings
 pub mod Firsts
 pub mod Spans
+pub mod Beyond
 pub mod Selected

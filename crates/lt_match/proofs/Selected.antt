@@ -14,11 +14,12 @@ use Rattle.lt_model.specs.Simplices.{IsClass}
 use Rattle.lt_model.specs.Principal.{IsOrder}
 use Rattle.lt_model.specs.Vectors.{plus}
 use Rattle.lt_triang.specs.Kept.{IsTriangulation, IsOfSomeForm, dimension_of}
-use Rattle.lt_colour.specs.Signatures.{IsClassSignature, ArePairSignatures}
-use Rattle.lt_colour.proofs.Signed.{pair_signature_carried}
-use Rattle.lt_colour.proofs.OneSignature.{same_signature, one_pair}
+use Rattle.lt_colour.specs.Signatures.{IsClassSignature}
+use Rattle.lt_colour.proofs.OneSignature.{same_signature}
+use Rattle.lt_match.specs.Beyond.{AreFacetSignatures}
 use Rattle.lt_match.specs.Matches.{ArePlaces, AreSigned, HasNoMatch}
 use Rattle.lt_match.proofs.Attempts.{first_class}
+use Rattle.lt_match.proofs.Beyond.{facet_signature_carried, one_facet_signature}
 use Rattle.lt_match.proofs.Firsts.{HasNone}
 use Rattle.lt_match.proofs.Tested.{dimension_is, first_member}
 
@@ -78,9 +79,9 @@ goes_onto d s s2 p u v h c c2 o k = record {
         let place : get_or p i 0 ≡ j = get_or_default p i 0 j at.1 ∙ at.2 in
         (get_or s i [], Contains-get_or s i [] (omega (arith, hi, c.simplex.count)), sym (goes i hi) ∙ ap (λ n. get_or s2 n []) place ∙ get_or_default s2 j [] y l ∙ e)
 
--- so an order that takes a vertex to one whose pair has another signature has no match
+-- so an order that takes a vertex to one whose facet has another signature has no match
 pub are_signed : (d : ℕ) (t t2 : List (List (List ℤ))) (n : ℕ) (ps qs : List (List ℤ)) → IsTriangulation d t → IsTriangulation d t2 → IsOfSomeForm t → IsOfSomeForm t2 → n < length t2 →
-    ArePairSignatures (dimension_of t) t (get_or t 0 []) ps → ArePairSignatures (dimension_of t2) t2 (get_or t2 n []) qs → AreSigned d t t2 (get_or t2 n []) ps qs
+    AreFacetSignatures (dimension_of t) t (get_or t 0 []) ps → AreFacetSignatures (dimension_of t2) t2 (get_or t2 n []) qs → AreSigned d t t2 (get_or t2 n []) ps qs
 unfolding goes_onto
 are_signed d t t2 n ps qs h h2 f f2 l g g2 = record { count = sig.count; count_too = sig2.count; none = none } where
   s0 : List (List ℤ)
@@ -95,11 +96,11 @@ are_signed d t t2 n ps qs h h2 f f2 l g g2 = record { count = sig.count; count_t
   own2 : IsDelaunay d f2.0 t2
   own2 = subst (λ (e : ℕ). IsDelaunay e f2.0 t2) (dimension_is d t2 h2) f2.1
 
-  sig : ArePairSignatures d t s0 ps
-  sig = subst (λ (e : ℕ). ArePairSignatures e t s0 ps) (dimension_is d t h) g
+  sig : AreFacetSignatures d t s0 ps
+  sig = subst (λ (e : ℕ). AreFacetSignatures e t s0 ps) (dimension_is d t h) g
 
-  sig2 : ArePairSignatures d t2 s qs
-  sig2 = subst (λ (e : ℕ). ArePairSignatures e t2 s qs) (dimension_is d t2 h2) g2
+  sig2 : AreFacetSignatures d t2 s qs
+  sig2 = subst (λ (e : ℕ). AreFacetSignatures e t2 s qs) (dimension_is d t2 h2) g2
 
   none : (p : List ℕ) (i : ℕ) → i < suc d → get_or ps i [] ≢ get_or qs (get_or p i 0) [] → HasNoMatch d t t2 s p
   none p i hi differ u k =
@@ -112,8 +113,8 @@ are_signed d t t2 n ps qs h h2 f f2 l g g2 = record { count = sig.count; count_t
       let un = carries_undone d u t t2 k.carries in
       let carried = goes_onto d s0 s p u k.carries.inverse un c c2 k.order k.candidate in
       let goes = vertex_goes d s0 s p u c2 k.candidate i hi lj l0 in
-      let there = pair_signature_carried d u t t2 s0 s i (get_or ps i []) h.classes k.carries carried hi (sig.each i hi) j hj goes in
-      differ (one_pair d f2.0 t2 s j (get_or ps i []) (get_or qs j []) own2 m hj there (sig2.each j hj))
+      let there = facet_signature_carried d u t t2 s0 s i (get_or ps i []) h.classes k.carries carried hi (sig.each i hi) j hj goes in
+      differ (one_facet_signature d f2.0 t2 s j (get_or ps i []) (get_or qs j []) own2 m hj there (sig2.each j hj))
 
 module _ (d : ℕ) (t t2 : List (List (List ℤ))) where
   -- places below n in ascending order; what else lies below n has no match

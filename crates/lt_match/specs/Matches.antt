@@ -48,8 +48,8 @@ pub record ArePlaces (d : ℕ) (t t2 : List (List (List ℤ))) (places : List �
   pub ascending : (i j : ℕ) → i < j → j < length places → get_or places i 0 < get_or places j 0
   pub all : (n : ℕ) → n < length t2 → Contains places n ⊎ ((q : List ℕ) → HasNoMatch d t t2 (get_or t2 n []) q)
 
--- where an order takes a vertex of the first class of t to one of s, and the pairs at the facets opposite to them have other signatures ps and
--- qs, the order has no match
+-- where an order takes a vertex of the first class of t to one of s, and the facets opposite to them have other signatures ps and qs, the
+-- order has no match
 pub record AreSigned (d : ℕ) (t t2 : List (List (List ℤ))) (s ps qs : List (List ℤ)) : Type 0 where
   pub count : length ps ≡ suc d
   pub count_too : length qs ≡ suc d

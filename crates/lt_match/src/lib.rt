@@ -3,6 +3,7 @@
 
 mod bases;
 mod carrying;
+mod facets;
 mod images;
 mod matching;
 mod transforms;

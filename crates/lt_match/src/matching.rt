@@ -11,13 +11,15 @@ ghost use Rattle.lt_geometry.specs.Carrying.{IsCandidate};
 ghost use Rattle.lt_geometry.proofs.Rearranged.{IsDistinct};
 ghost use Rattle.lt_triang.specs.Bounds.{AreNear};
 ghost use Rattle.lt_triang.specs.Kept.{IsTriangulation, dimension_of, IsOfSomeForm};
+ghost use Rattle.lt_colour.specs.Signatures.{AreClassSignatures};
 ghost use Rattle.lt_match.specs.Bases.{IsBasis};
 ghost use Rattle.lt_match.specs.Matches.{in_order, BeginsWith, HasNoMatch, IsMatch, IsFirstOrder, IsFirstMatch, ArePlaces, AreSigned, IsBeginning};
 
 use crate::bases::{Basis, basis_of, matrix_taking};
 use crate::carrying::{all_go, comes_back};
+use crate::facets::{FacetSignature, facet_signatures};
 use arrayvec::ArrayVec;
-use lt_colour::{PairSignature, pair_signatures, signature};
+use lt_colour::{ClassSignature, class_signatures};
 use lt_lattice::{Matrix, Point};
 use lt_model::Memory;
 use lt_triang::Triangulation;
@@ -97,19 +99,19 @@ fn with_last(chosen: &[usize], k: usize) -> ArrayVec<usize, 7>
     all
 }
 
-/// Whether vertex `k` of a member may come behind those chosen: it isn't among them, and the pair at the facet opposite to it has the
-/// signature of the pair opposite to the vertex that goes to it.
-fn may_follow(chosen: &[usize], k: usize, own: &[PairSignature], pairs: &[PairSignature]) -> bool
+/// Whether vertex `k` of a member may come behind those chosen: it isn't among them, and the facet opposite to it has the signature of the
+/// facet opposite to the vertex that goes to it.
+fn may_follow(chosen: &[usize], k: usize, own: &[FacetSignature], facets: &[FacetSignature]) -> bool
     requires next { length chosen.now < length own.now }
-    requires vertex { k < length pairs.now }
+    requires vertex { k < length facets.now }
     ensures yes { IsTrue result → Contains chosen.now k → ⊥ }
-    ensures no { result ≡ false → Contains chosen.now k ⊎ (get_or own.now (length chosen.now) [] ≢ get_or pairs.now k []) }
+    ensures no { result ≡ false → Contains chosen.now k ⊎ (get_or own.now (length chosen.now) [] ≢ get_or facets.now k []) }
 {
-    !stands_among(chosen, k) && own[chosen.len()] == pairs[k]
+    !stands_among(chosen, k) && own[chosen.len()] == facets[k]
 }
 
 /// The match of the first order that begins with the numbers and has one, where orders are compared number by number. Orders that take a
-/// vertex to one whose pair has another signature are passed over. The orders are gone through in place: a list of each would take memory
+/// vertex to one whose facet has another signature are passed over. The orders are gone through in place: a list of each would take memory
 /// for every candidate.
 fn search(
     d: usize,
@@ -117,8 +119,8 @@ fn search(
     from: &Triangulation,
     to: &Triangulation,
     s: &[Point],
-    own: &[PairSignature],
-    pairs: &[PairSignature],
+    own: &[FacetSignature],
+    facets: &[FacetSignature],
     chosen: &[usize],
 ) -> Option<Matrix>
     requires origin { IsTriangulation d from.now }
@@ -126,7 +128,7 @@ fn search(
     requires count { length from.now ≡ length to.now }
     requires basis { IsBasis d (get_or from.now 0 []) basis.now.scales.items basis.now.terms.items }
     requires member { Contains to.now s.now }
-    requires signed { AreSigned d from.now to.now s.now own.now pairs.now }
+    requires signed { AreSigned d from.now to.now s.now own.now facets.now }
     requires chosen { IsBeginning (suc d) chosen.now }
     ensures { MatchOption result ((p : List ℕ) → BeginsWith chosen.now p → HasNoMatch d from.now to.now s.now p) (λ u. (length u ≡ d * d) × IsFirstOrder d from.now to.now s.now chosen.now (rows d u)) }
 {
@@ -134,9 +136,9 @@ fn search(
         return attempt(d, basis, from, to, s, chosen);
     }
     for k in 0..d + 1 {
-        if may_follow(chosen, k, own, pairs) {
+        if may_follow(chosen, k, own, facets) {
             let longer = with_last(chosen, k);
-            match search(d, basis, from, to, s, own, pairs, longer.as_slice()) {
+            match search(d, basis, from, to, s, own, facets, longer.as_slice()) {
                 Some(u) => return Some(u),
                 None => {}
             }
@@ -152,17 +154,20 @@ fn candidate_places(
     d: usize,
     from: &Triangulation,
     to: &Triangulation,
+    own: &[ClassSignature],
+    others: &[ClassSignature],
 ) -> Result<Vec<usize>, Memory>
     requires origin { IsTriangulation d from.now }
     requires target { IsTriangulation d to.now }
     requires delaunay { IsOfSomeForm from.now }
     requires delaunay_too { IsOfSomeForm to.now }
+    requires signatures { AreClassSignatures (dimension_of from.now) from.now own.now }
+    requires signatures_too { AreClassSignatures (dimension_of to.now) to.now others.now }
     ensures { IfOk result (λ places. ArePlaces d from.now to.now places.items) }
 {
-    let first = signature(from, 0);
     let mut places = Vec::new(alloc);
     for n in 0..to.len() {
-        if signature(to, n).as_slice() == first.as_slice() {
+        if others[n] == own[0] {
             match places.push(n) {
                 Ok(()) => {}
                 Err(_) => return Err(Memory),
@@ -177,20 +182,24 @@ fn first_match(
     d: usize,
     from: &Triangulation,
     to: &Triangulation,
+    own: &[ClassSignature],
+    others: &[ClassSignature],
     places: &[usize],
 ) -> Option<Matrix>
     requires origin { IsTriangulation d from.now }
     requires target { IsTriangulation d to.now }
     requires delaunay { IsOfSomeForm from.now }
     requires delaunay_too { IsOfSomeForm to.now }
+    requires signatures { AreClassSignatures (dimension_of from.now) from.now own.now }
+    requires signatures_too { AreClassSignatures (dimension_of to.now) to.now others.now }
     requires count { length from.now ≡ length to.now }
     requires places { ArePlaces d from.now to.now places.now }
     ensures { MatchOption result ((n : ℕ) → n < length to.now → (q : List ℕ) → HasNoMatch d from.now to.now (get_or to.now n []) q) (λ u. (length u ≡ d * d) × IsFirstMatch d from.now to.now (rows d u)) }
 {
     let basis = basis_of(d, from.class(0).vertices());
-    let own = pair_signatures(from, 0);
+    let first = facet_signatures(from, own, 0);
     for n in places {
-        let pairs = pair_signatures(to, *n);
+        let facets = facet_signatures(to, others, *n);
         let s = to.class(*n).vertices();
         match search(
             d,
@@ -198,8 +207,8 @@ fn first_match(
             from,
             to,
             s,
-            own.as_slice(),
-            pairs.as_slice(),
+            first.as_slice(),
+            facets.as_slice(),
             &[],
         ) {
             Some(u) => return Some(u),
@@ -228,6 +237,15 @@ pub fn match_types(
     if from.len() != to.len() {
         return Ok(None);
     }
-    let places = candidate_places(alloc, d, from, to)?;
-    Ok(first_match(d, from, to, places.as_slice()))
+    let own = class_signatures(alloc, from)?;
+    let others = class_signatures(alloc, to)?;
+    let places = candidate_places(alloc, d, from, to, own.as_slice(), others.as_slice())?;
+    Ok(first_match(
+        d,
+        from,
+        to,
+        own.as_slice(),
+        others.as_slice(),
+        places.as_slice(),
+    ))
 }

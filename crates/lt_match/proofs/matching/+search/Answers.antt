@@ -49,7 +49,7 @@ loop-k-preserved t c =
       | then-may_follow+in-None w ↦ let is : w.as_slice.result.now ≡ chosen ++ k ∷ [] = w.as_slice.ensures.value ∙ w.with_last-longer.ensures in subst (HasNoneFrom d from to s) is w.in-None.ensures
       | else-may_follow w ↦ elim (c.may_follow.ensures.no w.if-may_follow.false) [
         | inl twice ↦ none_twice d from to s chosen k (omega (arith, c.if-chosen-d.false)) twice
-        | inr other ↦ none_signed d from to s chosen c.args.own.now c.args.pairs.now k c.requires.signed (omega (arith, c.if-chosen-d.false)) other
+        | inr other ↦ none_signed d from to s chosen c.args.own.now c.args.facets.now k c.requires.signed (omega (arith, c.if-chosen-d.false)) other
       ]
     ]
     in
