@@ -1,7 +1,7 @@
 //! The atlas of triangulations: entries, marks of their facets, the queue of open facets, and the log of what was recorded.
 #![tactic(auto)]
 
-ghost use Rattle.lt_core.specs.Laws.{EntriesAreReached, ClosedAtlasesAreComplete};
+ghost use Rattle.lt_core.specs.Laws.{EntriesAreReached, ClosedAtlasesAreComplete, RecordingsKeepThePast};
 
 mod atlas;
 mod beginnings;
@@ -23,4 +23,9 @@ pub use refusals::{Already, Back, Missed, Why};
 pub fn closed_atlases_are_complete()
     ensures reached { EntriesAreReached }
     ensures one { ClosedAtlasesAreComplete }
+{}
+
+/// A recording keeps the past: the atlas after it, cut to some of the earlier events, is the atlas before it, cut to them.
+pub fn recordings_keep_the_past()
+    ensures { RecordingsKeepThePast }
 {}
