@@ -11,7 +11,7 @@ from math import factorial
 from typing import Iterator, Sequence, Union
 
 from ltypes_atlas import lattice
-from ltypes_atlas.lattice import NotClosed, Pair, Shape, dot
+from ltypes_atlas.lattice import Invariant, NotClosed, Pair, Shape, dot
 from ltypes_atlas.text import (
     Atlas, Combination, Cross, Entry, Form, Heavy, Matrix, Normal, Origin, Regulator, Simplex, Wall, Wide, numbers_of_form,
 )
@@ -206,7 +206,7 @@ class Recheck:
 
     def twin_faults(self) -> Iterator[Fault]:
         """No two entries are equivalent: by invariants, and exactly where these leave it open."""
-        shapes: dict[tuple, list[tuple[int, Shape]]] = defaultdict(list)
+        shapes: dict[Invariant, list[tuple[int, Shape]]] = defaultdict(list)
         count = len(self.atlas.entries)
         self.summary.pairs = count * (count - 1) // 2
         for entry in self.atlas.entries:
