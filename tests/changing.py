@@ -6,7 +6,7 @@ import re
 from dataclasses import replace
 from functools import lru_cache
 from random import Random
-from typing import Any, Callable
+from typing import Any, Callable, TypeVar
 
 from ltypes_atlas import lattice
 from ltypes_atlas.text import (
@@ -16,6 +16,7 @@ from ltypes_atlas.text import (
 
 Bytes = Callable[[bytes, Random], bytes]
 Values = Callable[[Atlas, Random], Atlas]
+Item = TypeVar("Item")
 NUMBER = re.compile(rb"-?[0-9]+")
 BORDERS = (
     0, 1, 2, 5, 6, 400, 401, 800, 801, 100001, 100002, 1000000, 1000001, 1 << 20, (1 << 20) + 1, 1 << 27, (1 << 27) + 1, 1 << 29,
@@ -142,7 +143,7 @@ def too_long(data: bytes, random: Random) -> bytes:
 # ---- values
 
 
-def edited(values: tuple, place: int, *new: Any) -> tuple:
+def edited(values: tuple[Item, ...], place: int, *new: Item) -> tuple[Item, ...]:
     """The values with others in the place of one."""
     return values[:place] + new + values[place + 1 :]
 
@@ -161,8 +162,8 @@ def in_cross(change: Callable[[Cross, Random, Atlas], Mark]) -> Values:
     """A change of one crossed mark."""
 
     def changed(entry: Entry, random: Random, atlas: Atlas) -> Entry:
-        place = random.choice([k for k, mark in enumerate(entry.marks) if isinstance(mark, Cross)])
-        return replace(entry, marks=edited(entry.marks, place, change(entry.marks[place], random, atlas)))
+        place, mark = random.choice([(k, mark) for k, mark in enumerate(entry.marks) if isinstance(mark, Cross)])
+        return replace(entry, marks=edited(entry.marks, place, change(mark, random, atlas)))
 
     return in_entry(changed)
 
@@ -177,7 +178,7 @@ def in_row(change: Callable[[int, Entry, Random], Regulator]) -> Values:
     return in_entry(changed)
 
 
-def exchanged(values: tuple, random: Random) -> tuple:
+def exchanged(values: tuple[Item, ...], random: Random) -> tuple[Item, ...]:
     """The values with two of them exchanged."""
     i, j = random.randrange(len(values)), random.randrange(len(values))
     return edited(edited(values, i, values[j]), j, values[i])
@@ -217,7 +218,8 @@ def other_target(mark: Cross, random: Random, atlas: Atlas) -> Mark:
 
 def told_open(_: Cross, random: Random, atlas: Atlas) -> Mark:
     """A mark that is read as open."""
-    return random.choice([Open(), Wide(401, atlas.entries[0].simplices[0]), Heavy(1 << 112)])
+    marks: list[Mark] = [Open(), Wide(401, atlas.entries[0].simplices[0]), Heavy(1 << 112)]
+    return random.choice(marks)
 
 
 def marks_exchanged(entry: Entry, random: Random, _: Atlas) -> Entry:
@@ -386,7 +388,7 @@ def untouched(atlas: Atlas, _: Random) -> Atlas:
 def pulled_form(form: tuple[int, ...], matrix: Matrix) -> tuple[int, ...]:
     """The form whose value at x is that of the given one at the matrix times x."""
     d = len(matrix)
-    gram = lattice.times(lattice.times(tuple(zip(*matrix)), lattice.doubled_gram(form, d)), matrix)
+    gram = lattice.times(lattice.times(tuple(zip(*matrix)), tuple(map(tuple, lattice.doubled_gram(form, d)))), matrix)
     return tuple(gram[i][i] // 2 if i == j else gram[i][j] for i in range(d) for j in range(i, d))
 
 

@@ -10,7 +10,7 @@ from dataclasses import dataclass, field
 from functools import lru_cache
 from itertools import permutations
 from math import comb
-from typing import Callable, Optional, Sequence
+from typing import Iterator, Optional, Sequence
 
 from ltypes_atlas import lattice
 from ltypes_atlas.rechecking import wrong_combination, wrong_wall
@@ -252,7 +252,7 @@ def parsed(data: bytes) -> tuple[int, list[Spelt]]:
 
 
 @lru_cache(maxsize=4096)
-def regulators(classes: Classes) -> dict:
+def regulators(classes: Classes) -> dict[tuple[int, ...], list[lattice.Pair]]:
     """The regulators of a triangulation, each with its pairs."""
     return lattice.pairs_by_regulator(classes)
 
@@ -371,15 +371,13 @@ def total_line(entries: Sequence[Spelt]) -> str:
     return f"ok types {len(entries)} facets {len(marks)} crossed {crossed} undecided {len(marks) - crossed}"
 
 
-def refusal(dimension: int, data: bytes, entries: list[Spelt], found: int) -> Optional[str]:
-    """The first refusal of a text."""
-    if found != dimension:
-        return f"other dimension {found}"
-    tests: list[Callable[[], Optional[str]]] = [
-        lambda number=number: entry_refusal(dimension, entries, number) for number in range(len(entries))
-    ]
-    tests += [lambda: cross_refusal(entries), lambda: twin_refusal(entries)]
-    return next((told for told in (test() for test in tests) if told), None)
+def tests(dimension: int, entries: Sequence[Spelt], found: int) -> Iterator[Optional[str]]:
+    """The tests of a text in their order, each with its refusal, or none."""
+    yield None if found == dimension else f"other dimension {found}"
+    for number in range(len(entries)):
+        yield entry_refusal(dimension, entries, number)
+    yield cross_refusal(entries)
+    yield twin_refusal(entries)
 
 
 def judged(dimension: int, data: bytes) -> Answer:
@@ -390,5 +388,5 @@ def judged(dimension: int, data: bytes) -> Answer:
         found, entries = parsed(data)
     except SyntaxFault as fault:
         return Answer(3, f"refused: syntax line {fault.args[0]}")
-    told = refusal(dimension, data, entries, found)
+    told = next(filter(None, tests(dimension, entries, found)), None)
     return Answer(0, total_line(entries)) if told is None else Answer(3, f"refused: {told}")

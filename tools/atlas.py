@@ -14,9 +14,7 @@ from ltypes_atlas.rechecking import Recheck
 
 def read_atlas(path: str) -> text.Atlas:
     """The atlas of the file, or of standard input where the path is a stroke."""
-    if path == "-":
-        return text.read(sys.stdin)
-    with open(path, encoding="ascii", errors="replace", newline="\n") as lines:
+    with open(0 if path == "-" else path, encoding="ascii", errors="replace", newline="\n") as lines:
         return text.read(lines)
 
 

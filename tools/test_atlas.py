@@ -46,12 +46,12 @@ def with_entry(atlas: Atlas, number: int, **parts: Any) -> Atlas:
     return replace(atlas, entries=tuple(entries))
 
 
-def edited(values: tuple, place: int, *new: Any) -> tuple:
+def edited(values: tuple[Any, ...], place: int, *new: Any) -> tuple[Any, ...]:
     """The values with others in the place of one."""
     return values[:place] + new + values[place + 1 :]
 
 
-def exchanged(values: tuple, i: int, j: int) -> tuple:
+def exchanged(values: tuple[Any, ...], i: int, j: int) -> tuple[Any, ...]:
     """The values with two of them exchanged."""
     return edited(edited(values, i, values[j]), j, values[i])
 
@@ -71,7 +71,7 @@ def verdict(row: int, change: Callable[[Any], Any]) -> Change:
     return regulators(lambda rows: edited(rows, row, replace(rows[row], verdict=change(rows[row].verdict))))
 
 
-def marks(change: Callable[[tuple], tuple]) -> Change:
+def marks(change: Callable[[tuple[Any, ...]], tuple[Any, ...]]) -> Change:
     """A change of the marks."""
     return lambda atlas: with_entry(atlas, 1, marks=change(atlas.entries[1].marks))
 

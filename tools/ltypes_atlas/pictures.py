@@ -4,7 +4,7 @@ from __future__ import annotations
 
 from collections import defaultdict, deque
 from math import cos, pi, sin, sqrt
-from typing import Callable, Iterable, Iterator
+from typing import Callable, Iterable, Iterator, Union
 
 from ltypes_atlas import lattice
 from ltypes_atlas.lattice import dot
@@ -21,7 +21,7 @@ PALETTE = ("#f6d9a8", "#b9d9c4", "#c3cfe8", "#e8c3cf", "#d8d1b0", "#cfc3e8")
 # ---- elements
 
 
-def element(name: str, body: str = "", **attributes: object) -> str:
+def element(name: str, body: str = "", /, **attributes: Union[str, int, float]) -> str:
     """An element; `_` in the name of an attribute stands for `-`."""
     words = "".join(f' {key.replace("_", "-")}="{value}"' for key, value in attributes.items())
     return f"<{name}{words}>{body}</{name}>\n" if body else f"<{name}{words}/>\n"
@@ -32,25 +32,25 @@ def short(number: float) -> str:
     return f"{number + 0.0:.2f}".replace("-0.00", "0.00")
 
 
-def dot_at(place: Place, radius: float, **style: object) -> str:
+def dot_at(place: Place, radius: float, **style: Union[str, int, float]) -> str:
     """A circle."""
     return element("circle", cx=short(place[0]), cy=short(place[1]), r=short(radius), **style)
 
 
-def polygon(places: Iterable[Place], **style: object) -> str:
+def polygon(places: Iterable[Place], **style: Union[str, int, float]) -> str:
     """A polygon."""
     return element("polygon", points=" ".join(f"{short(x)},{short(y)}" for x, y in places), **style)
 
 
-def segment(a: Place, b: Place, **style: object) -> str:
+def segment(a: Place, b: Place, **style: Union[str, int, float]) -> str:
     """A segment."""
     return element("line", x1=short(a[0]), y1=short(a[1]), x2=short(b[0]), y2=short(b[1]), **style)
 
 
 def label(place: Place, words: str, size: int = 14) -> str:
     """A line of text, centred."""
-    style = {"font_size": size, "text_anchor": "middle", "font_family": "serif"}
-    return element("text", words, x=short(place[0]), y=short(place[1]), **style)
+    x, y = short(place[0]), short(place[1])
+    return element("text", words, x=x, y=y, font_size=size, text_anchor="middle", font_family="serif")
 
 
 def drawing(width: float, height: float, body: Iterable[str]) -> Iterator[str]:

@@ -11,7 +11,7 @@ from math import factorial
 from typing import Iterator, Sequence, Union
 
 from ltypes_atlas import lattice
-from ltypes_atlas.lattice import NotClosed, Pair, Shape, dot
+from ltypes_atlas.lattice import Invariant, NotClosed, Pair, Shape, dot
 from ltypes_atlas.text import (
     Atlas, Combination, Cross, Entry, Form, Heavy, Matrix, Normal, Origin, Regulator, Simplex, Wall, Wide, numbers_of_form,
 )
@@ -51,12 +51,16 @@ class Summary:
 
 
 class Recheck:
-    """Tests an atlas. The faults come by entry; the summary is whole when all have come."""
+    """Tests an atlas. The faults come by entry; the summary is whole when all have come.
+
+    Pairs are formed of the entries whose classes are a triangulation.
+    """
 
     def __init__(self, atlas: Atlas) -> None:
         self.atlas = atlas
         self.dimension = atlas.dimension
         self.summary = Summary()
+        self.triangulations: list[Entry] = []
         self.members = {entry.number: frozenset(entry.simplices) for entry in atlas.entries}
 
     def faults(self) -> Iterator[Fault]:
@@ -76,6 +80,7 @@ class Recheck:
         if broken:
             yield Fault(entry.number, "regulator", 0, "not tested, nor anything behind it: the classes are no triangulation")
             return
+        self.triangulations.append(entry)
         found = lattice.pairs_by_regulator(entry.simplices)
         yield from self.cone_faults(entry, sorted(found))
         yield from self.mark_faults(entry, found)
@@ -206,12 +211,10 @@ class Recheck:
 
     def twin_faults(self) -> Iterator[Fault]:
         """No two entries are equivalent: by invariants, and exactly where these leave it open."""
-        shapes: dict[tuple, list[tuple[int, Shape]]] = defaultdict(list)
-        count = len(self.atlas.entries)
+        shapes: dict[Invariant, list[tuple[int, Shape]]] = defaultdict(list)
+        count = len(self.triangulations)
         self.summary.pairs = count * (count - 1) // 2
-        for entry in self.atlas.entries:
-            if any(self.triangulation_faults(entry)):
-                continue
+        for entry in self.triangulations:
             shape = Shape(entry.simplices)
             for number, other in shapes[shape.invariant]:
                 self.summary.left_open += 1
