@@ -135,6 +135,11 @@ def entry_renumbered(data: bytes, random: Random) -> bytes:
     return spliced(data, found.start(), found.end(), new)
 
 
+def another_version(data: bytes, random: Random) -> bytes:
+    """Another first line."""
+    return random.choice([b"ltypes 2\n", b"ltypes 0\n", b"Ltypes 1\n"]) + data.partition(b"\n")[2]
+
+
 def too_long(data: bytes, random: Random) -> bytes:
     """Bytes at the limit of 2^26, or one more."""
     return data + b"\n" * ((1 << 26) - len(data) + random.randrange(2))
@@ -481,5 +486,5 @@ BYTES: dict[str, Bytes] = {
     "a front": cut,
     "an entry renumbered": entry_renumbered,
     "no last line feed": lambda data, _: data.rstrip(b"\n"),
-    "another version": lambda data, random: data.replace(b"ltypes 1\n", random.choice([b"ltypes 2\n", b"ltypes 0\n", b"Ltypes 1\n"])),
+    "another version": another_version,
 }

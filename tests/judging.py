@@ -14,7 +14,7 @@ from typing import Iterator, Optional, Sequence
 
 from ltypes_atlas import lattice
 from ltypes_atlas.rechecking import wrong_combination, wrong_wall
-from ltypes_atlas.text import Combination, Simplex
+from ltypes_atlas.text import Combination, Simplex, negative_of
 
 LIMIT = 1 << 26
 NATURAL = re.compile(rb"0|[1-9][0-9]*")
@@ -46,9 +46,10 @@ class Mark:
 
 @dataclass
 class Spelt:
-    """An entry as it is spelt."""
+    """An entry as it is spelt, and all of its classes where those that are listed are right."""
 
     origin: Optional[tuple[int, int]]
+    listed: Classes = ()
     classes: Classes = ()
     rows: list[Row] = field(default_factory=list)
     form: tuple[int, ...] = ()
@@ -123,10 +124,11 @@ def rows_of(numbers: Sequence[int], size: int) -> tuple[tuple[int, ...], ...]:
 
 
 class Grammar:
-    """Takes the lines of a text one after the other."""
+    """Takes the lines of a text of a version one after the other."""
 
-    def __init__(self, lines: Sequence[bytes]) -> None:
+    def __init__(self, lines: Sequence[bytes], version: int) -> None:
         self.lines = lines
+        self.version = version
         self.taken = 0
         self.dimension = 0
         self.size = 0
@@ -215,7 +217,7 @@ class Grammar:
     def entry(self, number: int) -> Spelt:
         """The lines of an entry."""
         entry = Spelt(self.origin(number))
-        entry.classes = tuple(self.simplex() for _ in range(self.counted(b"simplices", 1, 1 << 27)))
+        entry.listed = tuple(self.simplex() for _ in range(self.counted(b"simplices", 1, 1 << 27)))
         count = self.counted(b"regulators", 1, 1 << 29)
         entry.rows = [self.row(count) for _ in range(count)]
         entry.form = self.form()
@@ -225,7 +227,7 @@ class Grammar:
 
     def text(self) -> list[Spelt]:
         """The lines of a whole text."""
-        self.counted(b"ltypes", 1, 1)
+        self.counted(b"ltypes", self.version, self.version)
         self.dimension = self.counted(b"dimension", 2, 5)
         self.size = comb(self.dimension + 1, 2)
         entries = [self.entry(number) for number in range(self.counted(b"entries", 1, 100001))]
@@ -235,10 +237,10 @@ class Grammar:
         return entries
 
 
-def parsed(data: bytes) -> tuple[int, list[Spelt]]:
+def parsed(data: bytes, version: int) -> tuple[int, list[Spelt]]:
     """The dimension and the entries; SyntaxFault with the line of the first fault."""
     *lines, tail = data.split(b"\n")
-    grammar = Grammar(lines)
+    grammar = Grammar(lines, version)
     try:
         entries = grammar.text()
     except SyntaxFault:
@@ -283,6 +285,11 @@ def first_matrix(source: Classes, target: Classes) -> Optional[tuple[tuple[int, 
     return None
 
 
+def listed(classes: Classes, version: int) -> Classes:
+    """The classes that a text lists: all of them, or in version 2 the one of each pair S, -S that comes first."""
+    return classes if version == 1 else tuple(simplex for simplex in classes if simplex < negative_of(simplex))
+
+
 def is_wide(classes: Classes) -> bool:
     """Whether a class has a span above the limit."""
     return any(lattice.span(simplex) > lattice.SPAN_LIMIT for simplex in classes)
@@ -317,18 +324,19 @@ def has_origin(dimension: int, entries: Sequence[Spelt], number: int) -> bool:
     return entries[parent].marks[facet] == Mark(b"cross", number, lattice.identity(dimension))
 
 
-def entry_refusal(dimension: int, entries: Sequence[Spelt], number: int) -> Optional[str]:
-    """Why an entry is refused: its origin, its classes or its cone."""
+def entry_refusal(dimension: int, entries: Sequence[Spelt], number: int, version: int) -> Optional[str]:
+    """Why an entry is refused: its origin, its classes or its cone. Its classes are known from here on."""
     entry = entries[number]
     if number == 0:
-        if entry.classes != lattice.principal(dimension):
+        entry.classes = lattice.principal(dimension)
+        if entry.listed != listed(entry.classes, version):
             return "not principal"
     else:
         if not has_origin(dimension, entries, number):
             return f"origin {number}"
         parent, facet = entry.origin or (0, 0)
-        across = beyond(entries[parent].classes, entries[parent].normals()[facet])
-        if entry.classes != across or is_wide(across):
+        entry.classes = beyond(entries[parent].classes, entries[parent].normals()[facet])
+        if entry.listed != listed(entry.classes, version) or is_wide(entry.classes):
             return f"simplices {number}"
     row = cone_fault(dimension, entry)
     return None if row is None else f"cone {number} {row}"
@@ -371,22 +379,22 @@ def total_line(entries: Sequence[Spelt]) -> str:
     return f"ok types {len(entries)} facets {len(marks)} crossed {crossed} undecided {len(marks) - crossed}"
 
 
-def tests(dimension: int, entries: Sequence[Spelt], found: int) -> Iterator[Optional[str]]:
+def tests(dimension: int, entries: Sequence[Spelt], found: int, version: int) -> Iterator[Optional[str]]:
     """The tests of a text in their order, each with its refusal, or none."""
     yield None if found == dimension else f"other dimension {found}"
     for number in range(len(entries)):
-        yield entry_refusal(dimension, entries, number)
+        yield entry_refusal(dimension, entries, number, version)
     yield cross_refusal(entries)
     yield twin_refusal(entries)
 
 
-def judged(dimension: int, data: bytes) -> Answer:
-    """What `ltypes check D` has to answer."""
+def judged(dimension: int, data: bytes, version: int = 1) -> Answer:
+    """What `ltypes check D` has to answer where it reads texts of this version."""
     if len(data) > LIMIT:
         return Answer(3, "refused: too long")
     try:
-        found, entries = parsed(data)
+        found, entries = parsed(data, version)
     except SyntaxFault as fault:
         return Answer(3, f"refused: syntax line {fault.args[0]}")
-    told = next(filter(None, tests(dimension, entries, found)), None)
+    told = next(filter(None, tests(dimension, entries, found, version)), None)
     return Answer(0, total_line(entries)) if told is None else Answer(3, f"refused: {told}")

@@ -15,8 +15,16 @@ from changing import equivalent_entry
 from judging import judged
 from ltypes_atlas import text
 
-PLANE = (ROOT / "results" / "atlas-2.txt").read_bytes()
-FOUR = (ROOT / "results" / "atlas-4.txt").read_bytes()
+
+
+def spelt(dimension: int, version: int) -> bytes:
+    """The stored atlas in a version of the text."""
+    lines = (ROOT / "results" / f"atlas-{dimension}.txt").read_text().splitlines(keepends=True)
+    return "".join(text.written(text.read(lines), version)).encode()
+
+
+PLANE = spelt(2, 1)
+FOUR = spelt(4, 1)
 ACCEPTED = "ok types 1 facets 3 crossed 3 undecided 0"
 
 # the dimension that is asked for, the text, what is replaced by what, and the answer
@@ -84,6 +92,16 @@ class Judge(unittest.TestCase):
             self.assertEqual(answer.split()[:4], ["refused:", "twin", "0", "1"])
             images = tuple(tuple(numbers[k] * x + numbers[k + 1] * y for k in (0, 2)) for x, y in first)
             self.assertEqual(images, atlas.entries[0].simplices[0])
+
+    def test_half_lists(self) -> None:
+        """In version 2 one class of each pair is listed."""
+        plane, four = spelt(2, 2), spelt(4, 2)
+        self.assertEqual(judged(2, plane, 2).line, ACCEPTED)
+        self.assertEqual(judged(4, four, 2).line, "ok types 3 facets 30 crossed 30 undecided 0")
+        self.assertEqual(judged(2, PLANE, 2).line, "refused: syntax line 1")
+        self.assertEqual(judged(2, plane).line, "refused: syntax line 1")
+        self.assertEqual(judged(2, PLANE.replace(b"ltypes 1", b"ltypes 2"), 2).line, "refused: not principal")
+        self.assertEqual(judged(2, plane.replace(b"0 0 0 1 1 1\n", b"0 0 1 0 1 1\n"), 2).line, "refused: not principal")
 
     def test_long_texts(self) -> None:
         self.assertEqual(judged(2, b"\n" * ((1 << 26) + 1)).line, "refused: too long")
