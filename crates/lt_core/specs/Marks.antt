@@ -1,5 +1,5 @@
 -- What the marks, events and entries of the program mean.
-use Rattle.std.specs.Prelude.{ℕ, ℤ, cond, nat_eq, List, map, length, nat_abs, Vec}
+use Rattle.std.specs.Prelude.{ℕ, ℤ, cond, nat_eq, List, map, length, Vec}
 use Rattle.std.specs.declared.option.Option.{Option}
 use Rattle.std.specs.declared.option.Option.TheVariants.{Some, None}
 use Rattle.lt_model.specs.Flat.{rows}
@@ -21,8 +21,8 @@ matrix_rows u = rows (side (length u)) u
 abbrev pub mark_of : Mark → model.Mark
 mark_of Open = model.open_mark
 mark_of (Cross target matrix) = model.cross target (matrix_rows matrix)
-mark_of (Wide s n) = model.wide s (nat_abs n)
-mark_of (Heavy w) = model.heavy (nat_abs w)
+mark_of (Wide s n) = model.wide s n
+mark_of (Heavy w) = model.heavy w
 
 abbrev pub marks_of : {Z : Type 0} → List (Vec Mark Z) → List (List model.Mark)
 marks_of mss = map (λ ms. map mark_of ms.items) mss

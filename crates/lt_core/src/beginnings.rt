@@ -1,6 +1,6 @@
 //! Whether the parts of an atlas are those at the beginning of another.
 
-ghost use Rattle.std.specs.Prelude.{◌≡◌, ◌<◌, ◌≤◌, ◌-◌, ℕ, IsTrue, ◌↔◌, nat_abs, length, get_or, map, sum, []};
+ghost use Rattle.std.specs.Prelude.{◌≡◌, ◌<◌, ◌≤◌, ◌-◌, ℕ, IsTrue, ◌↔◌, length, get_or, map, sum, []};
 ghost use Rattle.lt_model.specs.Atlases.{cross, wide, heavy};
 ghost use Rattle.lt_core.specs.Beginnings.{fresh_events, Stands, AreStanding, AllStand};
 ghost use Rattle.lt_core.specs.Marks.{mark_of, marks_of, event_of, entry_of, place_of, matrix_rows};
@@ -19,17 +19,17 @@ fn same_cross(target: u32, matrix: &Matrix, other: u32, theirs: &Matrix) -> bool
 }
 
 /// Whether two wide classes are the same.
-fn same_wide(class: &Class, span: i64, other: &Class, theirs: i64) -> bool
-    ensures { IsTrue result ↔ (wide class.now (nat_abs span) ≡ wide other.now (nat_abs theirs)) }
+fn same_wide(class: &Class, span: u64, other: &Class, theirs: u64) -> bool
+    ensures { IsTrue result ↔ (wide class.now span ≡ wide other.now theirs) }
 {
-    class == other && span.unsigned_abs() == theirs.unsigned_abs()
+    class == other && span == theirs
 }
 
 /// Whether two weights are the same.
-fn same_heavy(weight: i128, theirs: i128) -> bool
-    ensures { IsTrue result ↔ (heavy (nat_abs weight) ≡ heavy (nat_abs theirs)) }
+fn same_heavy(weight: u128, theirs: u128) -> bool
+    ensures { IsTrue result ↔ (heavy weight ≡ heavy theirs) }
 {
-    weight.unsigned_abs() == theirs.unsigned_abs()
+    weight == theirs
 }
 
 impl Mark {

@@ -26,12 +26,12 @@ pub enum Mark {
         /// The first such class.
         class: Class,
         /// Its span.
-        span: i64,
+        span: u64,
     },
     /// The weight of the triangulation across isn't below 2^112.
     Heavy {
         /// The weight, at most 2^120.
-        weight: i128,
+        weight: u128,
     },
 }
 

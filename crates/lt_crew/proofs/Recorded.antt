@@ -1,5 +1,5 @@
 -- What a worker knows becomes what a recording asks, where the copies stand.
-use Rattle.std.proofs.Common.{◌≡◌, ℕ, ℤ, pos, ◌^◌, ◌<◌, ◌≤◌, arith, sym, ap, ◌∙◌, subst, List, length, take, false}
+use Rattle.std.proofs.Common.{◌≡◌, ℕ, ℤ, pos, ◌^◌, ◌<◌, ◌≤◌, arith, sym, ap, ◌∙◌, subst, List, length, take, false, inl, inr}
 use Rattle.std.specs.Prelude.{nat_abs}
 use Rattle.std.proofs.lemmas.List.{get_or-take, length-take}
 use mir.Val.{SFits, to_z, of_z}
@@ -9,7 +9,7 @@ use Rattle.lt_model.specs.Walls.{IsAcross, AreRegulators}
 use Rattle.lt_model.specs.Limits.{weight}
 use Rattle.lt_model.specs.Matrices.{AreEquivalent, Carries}
 use Rattle.lt_model.specs.Cones.{Cone, IsRightCone}
-use Rattle.lt_model.specs.Atlases.{Classes, Entry, Atlas, no_entry, open_mark, mark_at, cross, wide, heavy, entry_at, place_at}
+use Rattle.lt_model.specs.Atlases.{Classes, Entry, Atlas, no_entry, open_mark, mark_at, cross, wide, heavy, entry_at, place_at, push, grow}
 use Rattle.lt_model.specs.Logs.{IsKept, IsLegal, IsStuck, IsWide, IsHeavy, IsCandidate, IsUnlikeAll}
 use Rattle.lt_triang.specs.Kept.{dimension_of}
 use Rattle.lt_flip.specs.Flipped.{IsWideFlip}
@@ -18,11 +18,13 @@ use Rattle.lt_cone.specs.declared.error.ConeError.TheVariants.{Heavy}
 use Rattle.lt_core.specs.Candidates.{candidate}
 use Rattle.lt_crew.specs.declared.desk.Task.{Task}
 use Rattle.lt_crew.specs.declared.desk.Test.{Test}
-use Rattle.lt_crew.specs.Settled.{LiesAcross, IsNarrow}
+use Rattle.lt_match.specs.Matches.{IsFirstMatch}
+use Rattle.lt_core.proofs.Equivalent.{carries_back, carries_on}
+use Rattle.lt_crew.specs.Settled.{LiesAcross, IsNarrow, IsFirstKnown, IsSettled}
 use Rattle.lt_crew.specs.Standing.{StandsAt}
 use Rattle.lt_crew.specs.Tasks.{home_of, known_of, IsBeyond, IsCarried, IsTest, AreKnown}
 use Rattle.lt_core.proofs.Reaching.{classes_of_form}
-use Rattle.lt_crew.proofs.Beyond.{wide_here, narrow_form}
+use Rattle.lt_crew.proofs.Beyond.{wide_here, narrow_form, ends_new}
 use Rattle.std.proofs.Math.Nat.{min-le_left}
 use Rattle.lt_crew.proofs.Prints.{other_print}
 use Rattle.lt_crew.proofs.Places.{is_facet, form_here}
@@ -38,6 +40,15 @@ module _ (a : Atlas) (low : 2 ≤ a.dimension) (kept : IsKept (IsAcross a.dimens
       let x = wide_here a p (home_of t) t.normal c n s low f facet w in
       let k : m ≡ x.1 = e ∙ ap nat_abs x.4 in
       record { no_cross = tt; across = x.0; is_across = x.2; cause = subst (λ (z : ℕ). IsWide a.dimension x.0 c z) (sym k) x.3 }
+
+  -- and what settling records then
+  pub wide_settled : (c : List (List ℤ)) (n : ℤ) (m : ℕ) (b : Atlas) → IsWideFlip (dimension_of (home_of t)) (home_of t) t.normal c n → m ≡ nat_abs n → b ≡ push a p (wide c m) → IsSettled a p b
+  wide_settled c n m b w e g =
+      let f = form_here a low kept p here (home_of t) s.triangulation in
+      let facet = facet_here a p (dimension_of (home_of t)) (home_of t) t.normal s (is_facet a low kept p here) in
+      let x = wide_here a p (home_of t) t.normal c n s low f facet w in
+      let k : m ≡ x.1 = e ∙ ap nat_abs x.4 in
+      record { across = x.0; is_across = x.2; end = inl (c, m, subst (λ (z : ℕ). IsWide a.dimension x.0 c z) (sym k) x.3, g) }
 
   module _ (r : Classes) (b : IsBeyond t r) where
     across : LiesAcross a p r
@@ -85,6 +96,14 @@ module _ (a : Atlas) (low : 2 ≤ a.dimension) (kept : IsKept (IsAcross a.dimens
             } in
             record { no_cross = tt; across = r; is_across = across; cause = subst (λ (z : ℕ). IsHeavy a.dimension (take test.tested a.entries) r z) (sym e) there }
 
+        -- where the worker compared all entries, a new entry is what settling gives
+        module _ (all : length a.entries ≤ test.tested) where
+          unlike_all : IsUnlikeAll a.dimension r a.entries
+          unlike_all i l = unlike i (omega (arith, l, all)) l
+
+          pub new_settled : (next : Atlas) (c : Cone) → IsRightCone (dimension_of r) r c → next ≡ grow a p (candidate a p r c) → IsSettled a p next
+          new_settled next c right e = ends_new a p r next across narrow c right unlike_all e
+
 -- a carried triangulation makes a legal crossing
 pub cross_legal : (a : Atlas) (p : ℕ) → p < length a.queue → (t : Task) → StandsAt a p (dimension_of (home_of t)) (home_of t) t.normal → (image : Classes) (u : List (List ℤ)) → IsCarried t image u → (k : ℕ) → k < length a.entries → (entry_at a.entries k).triangulation ≡ image
     → mark_at a.marks (place_at a.queue p) ≡ open_mark → IsLegal (IsAcross a.dimension) a a.entries (record { position = p; mark = cross k u; fresh = false })
@@ -94,5 +113,23 @@ cross_legal a p here t s image u x k l same o =
       position = record { queued = here; undecided = o };
       across = x.beyond;
       is_across = beyond_across a p t x.beyond s x.is_beyond;
-      cause = record { present = l; narrow = n.narrow; carries = subst (λ (z : Classes). Carries a.dimension u x.beyond z) (sym same) (subst (λ (z : ℕ). Carries z u x.beyond image) s.dimension x.carries) };
+      cause = record { present = l; narrow = n.narrow; carries = subst (λ (z : Classes). Carries a.dimension u x.beyond z) (sym same) (subst (λ (z : ℕ). Carries z u x.beyond image) s.dimension x.first.first.«match».carries) };
     }
+
+-- no two entries are equivalent, so an entry onto which t is carried is the first such
+only_known : (a : Atlas) → IsKept (IsAcross a.dimension) a → (t : Classes) → IsNarrow a.dimension t → (k : ℕ) (u : List (List ℤ)) → k < length a.entries → IsFirstMatch a.dimension t (entry_at a.entries k).triangulation u → IsFirstKnown a t k u
+only_known a kept t n k u l m = record { present = l; first = m; before = before } where
+  before : (i : ℕ) → i < k → AreEquivalent a.dimension t (entry_at a.entries i).triangulation → ⊥
+  before i h e =
+      let there : i < length a.entries = omega (arith, h, l) in
+      let back = carries_back a.dimension t (entry_at a.entries i).triangulation (classes_of_form a.dimension t (narrow_form a.dimension t n)) e in
+      kept.right.parts.apart i k there l (λ same. omega (arith, h, same))
+      (carries_on a.dimension (entry_at a.entries i).triangulation t (entry_at a.entries k).triangulation (kept.right.parts.entries i there).classes back (u, m.first.«match».carries))
+
+-- and a crossing by the first matrix is what settling gives
+pub cross_settled : (a : Atlas) → IsKept (IsAcross a.dimension) a → (p : ℕ) (t : Task) → StandsAt a p (dimension_of (home_of t)) (home_of t) t.normal → (image : Classes) (u : List (List ℤ)) → IsCarried t image u → (k : ℕ) → k < length a.entries → (entry_at a.entries k).triangulation ≡ image
+    → (b : Atlas) → b ≡ push a p (cross k u) → IsSettled a p b
+cross_settled a kept p t s image u x k l same b e =
+    let n = beyond_narrow a p t x.beyond s x.is_beyond in
+    let m = subst (λ (z : Classes). IsFirstMatch a.dimension x.beyond z u) (sym same) (subst (λ (z : ℕ). IsFirstMatch z x.beyond image u) s.dimension x.first) in
+    record { across = x.beyond; is_across = beyond_across a p t x.beyond s x.is_beyond; end = inr (n.narrow, inl (k, u, only_known a kept x.beyond n k u l m, e)) }

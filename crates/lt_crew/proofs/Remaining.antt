@@ -10,8 +10,8 @@ use Rattle.lt_model.specs.Logs.{IsLegal, IsKept}
 use Rattle.lt_core.specs.Candidates.{candidate}
 use Rattle.lt_core.proofs.Kept.{cause_not_open}
 use Rattle.lt_crew.specs.Settled.{IsSettled}
-use Rattle.lt_crew.specs.Runs.{AreBelow, IsSettledBelow}
-use Rattle.lt_crew.proofs.Steps.{IsNext, settled_next}
+use Rattle.lt_crew.specs.Runs.{AreBelow, AreSettled, IsSettledBelow}
+use Rattle.lt_crew.proofs.Steps.{IsNext, settled_next, settled_more}
 use Rattle.lt_crew.proofs.Events.{IsWithin, below_more}
 
 -- where an event stands the mark is not open
@@ -42,16 +42,18 @@ longer_queue a b p s =
 pub record IsRestTo (s a : Atlas) (steps p : ℕ) : Type 0 where
   pub begins : begin a ≡ begin s
   pub within : IsWithin a steps
+  pub events : AreSettled a
   pub settled : (q : ℕ) → q < p → (q < length a.queue) × (mark_at a.marks (place_at a.queue q) ≢ open_mark)
 
-pub rest_begins : (s : Atlas) (steps : ℕ) → AreBelow steps s.log → length s.entries ≤ 100001 + length s.log → IsRestTo s s steps 0
-rest_begins s steps below few = record { begins = refl; within = record { below = below; few = few }; settled = λ q l. absurd (omega arith) }
+pub rest_begins : (s : Atlas) (steps : ℕ) → AreBelow steps s.log → length s.entries ≤ 100001 + length s.log → AreSettled s → IsRestTo s s steps 0
+rest_begins s steps below few events = record { begins = refl; within = record { below = below; few = few }; events = events; settled = λ q l. absurd (omega arith) }
 
 -- the mark there was settled already
 pub rest_goes_on : (s a : Atlas) (steps p : ℕ) → IsRestTo s a steps p → p < length a.queue → mark_at a.marks (place_at a.queue p) ≢ open_mark → IsRestTo s a steps (p + 1)
 rest_goes_on s a steps p r l n = record {
   begins = r.begins;
   within = r.within;
+  events = r.events;
   settled = λ q h. elim (cases_lt q p) [
     | inl k ↦ r.settled q k
     | inr k ↦ (let e : p ≡ q = omega (arith, h, k) in subst (λ (z : ℕ). (z < length a.queue) × (mark_at a.marks (place_at a.queue z) ≢ open_mark)) e (l, n))
@@ -90,8 +92,9 @@ rest_steps s a b steps p r before after l here settled =
     let n = settled_next a b p here settled in
     let longer = longer_queue a b p settled in
     rest_goes_on s b steps p (record {
-      begins = n.begins ∙ r.begins;
+      begins = n.past 0 (omega arith) ∙ r.begins;
       within = within_next a b p before after n longer steps r.within l;
+      events = settled_more a b p n r.events settled;
       settled = λ q h. let x = r.settled q h in (omega (arith, x.0, longer), stays a b p before after n longer q x.0 x.1);
     }) (let q = here.queued in omega (arith, q, longer)) (settles a b p before after n longer)
 

@@ -1,7 +1,7 @@
 -- What a worker copied from a place, and what it knows of it when it comes back.
 use Rattle.std.proofs.Common.{◌≡◌, ◌⊎◌, ℕ, suc, ℤ, ◌+◌, ◌*◌, ◌<◌, ◌≤◌, arith, sym, ap, ◌∙◌, subst, inl, inr, List, [], ◌∷◌, ◌++◌, length, get_or, map, take, length-append}
 use Rattle.lt_model.specs.Walls.{IsAcross}
-use Rattle.lt_model.specs.Matrices.{AreEquivalent, Carries}
+use Rattle.lt_model.specs.Matrices.{AreEquivalent}
 use Rattle.lt_model.specs.Atlases.{Classes, Entry, Atlas, no_entry, entry_at, place_at, facets}
 use Rattle.lt_model.specs.Logs.{IsKept}
 use Rattle.lt_triang.specs.Kept.{dimension_of, IsTriangulation}
@@ -72,13 +72,13 @@ all_known a print known from k n before between most i l m f =
       ]
     ]
 
--- a match carries
-pub match_carries : (d : ℕ) (t image : Classes) (u : List ℤ) → IsTriangulation d t → length u ≡ dimension_of t * dimension_of t → IsFirstMatch (dimension_of t) t image (rows (dimension_of t) u) → Carries (dimension_of t) (matrix_rows u) t image
-match_carries d t image u h e m =
+-- the first match, by the rows of its matrix
+pub match_first : (d : ℕ) (t image : Classes) (u : List ℤ) → IsTriangulation d t → length u ≡ dimension_of t * dimension_of t → IsFirstMatch (dimension_of t) t image (rows (dimension_of t) u) → IsFirstMatch (dimension_of t) t image (matrix_rows u)
+match_first d t image u h e m =
     let same : d ≡ dimension_of t = dimension_is d t h in
     let low = h.low in
     let high = h.high in
-    subst (λ (z : List (List ℤ)). Carries (dimension_of t) z t image) (sym (square_rows (dimension_of t) u (omega (arith, low, same)) (omega (arith, high, same)) e)) m.first.«match».carries
+    subst (λ (z : List (List ℤ)). IsFirstMatch (dimension_of t) t image z) (sym (square_rows (dimension_of t) u (omega (arith, low, same)) (omega (arith, high, same)) e)) m
 
 pub same_dimension : (d e : ℕ) (t r : Classes) → IsTriangulation d t → IsTriangulation e r → d ≡ e → dimension_of t ≡ dimension_of r
 same_dimension d e t r h k same = sym (dimension_is d t h) ∙ same ∙ dimension_is e r k

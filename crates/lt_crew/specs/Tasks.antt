@@ -3,10 +3,11 @@ use Rattle.std.specs.Prelude.{ℕ, ℤ, ◌<◌, ◌≤◌, ◌≡◌, List, [],
 use Rattle.std.specs.Arc.{arc_value}
 use Rattle.lt_model.specs.Limits.{span, span_limit}
 use Rattle.lt_model.specs.Walls.{IsFacet, IsAcross}
-use Rattle.lt_model.specs.Matrices.{AreEquivalent, Carries}
+use Rattle.lt_model.specs.Matrices.{AreEquivalent}
 use Rattle.lt_model.specs.Atlases.{Classes, Atlas, entry_at}
 use Rattle.lt_triang.specs.Kept.{dimension_of, IsOfSomeForm}
 use Rattle.lt_colour.specs.Signatures.{IsFingerprint}
+use Rattle.lt_match.specs.Matches.{IsFirstMatch}
 use Rattle.lt_crew.specs.declared.desk.Task.{Task}
 use Rattle.lt_crew.specs.declared.desk.Test.{Test}
 
@@ -39,11 +40,11 @@ abbrev pub AreKnown : Atlas → List ℤ → List Classes → ℕ → Type 0
 AreKnown a print known n =
     (i : ℕ) → i < n → i < length a.entries → IsFingerprint a.dimension (entry_at a.entries i).triangulation print → (j : ℕ) × (j < length known) × (get_or known j [] ≡ (entry_at a.entries i).triangulation)
 
--- a matrix carries what lies beyond the facet onto the image
+-- u is the first matrix that carries what lies beyond the facet onto the image
 pub record IsCarried (t : Task) (image : Classes) (u : List (List ℤ)) : Type 0 where
   pub beyond : Classes
   pub is_beyond : IsBeyond t beyond
-  pub carries : Carries (dimension_of (home_of t)) u beyond image
+  pub first : IsFirstMatch (dimension_of (home_of t)) beyond image u
 
 -- the fingerprint is that of r, and no known one is equivalent to it
 pub record IsTest (r : Classes) (t : Test) : Type 0 where

@@ -7,7 +7,7 @@ ghost use Rattle.std.specs.Arc.{arc_value};
 ghost use Rattle.std.specs.Thread.{IsSync};
 ghost use Rattle.lt_claim.specs.Passes.{left_of, share_of, IsOf};
 ghost use Rattle.lt_crew.specs.Shared.{triangulation_of};
-ghost use Rattle.lt_crew.specs.Runs.{AreBelow, IsSettledBelow};
+ghost use Rattle.lt_crew.specs.Runs.{AreBelow, AreSettled, IsSettledBelow};
 
 use crate::crossing::{serve, shared_copy};
 use crate::desk::Desk;
@@ -155,6 +155,7 @@ fn finish<L: Ledger>(
     ensures begins { begin result.atlas ≡ copy }
     ensures done { result.done ≡ length result.atlas.log }
     ensures below { AreBelow steps result.atlas.log }
+    ensures events { AreSettled result.atlas }
     ensures settled { result.memory ≡ false → IsSettledBelow steps result.atlas }
 {
     let mut share = share;
@@ -189,6 +190,7 @@ fn run_in<L: Ledger + Send + Sync, R: Threads + Wait + Sync, G: Gate>(
     ensures begins { begin result.atlas ≡ atlas }
     ensures done { result.done ≡ length result.atlas.log }
     ensures below { AreBelow steps result.atlas.log }
+    ensures events { AreSettled result.atlas }
     ensures settled { result.memory ≡ false → IsSettledBelow steps result.atlas }
 {
     let copy = match atlas.try_copy() {
@@ -241,6 +243,7 @@ pub fn enumerate<R: Threads + Wait + Sync, G: Gate>(
     ensures begins { begin result.atlas ≡ atlas }
     ensures done { result.done ≡ length result.atlas.log }
     ensures below { AreBelow steps result.atlas.log }
+    ensures events { AreSettled result.atlas }
     ensures settled { result.memory ≡ false → IsSettledBelow steps result.atlas }
 {
     run_in::<Brand, R, G>(

@@ -3,7 +3,7 @@
 ghost use Rattle.std.specs.Prelude.{◌≡◌, ◌<◌, ◌+◌, false, true};
 ghost use Rattle.std.specs.Result.{IfOk};
 ghost use Rattle.std.specs.Option.{IfSome};
-ghost use Rattle.lt_model.specs.Matrices.{Carries};
+ghost use Rattle.lt_match.specs.Matches.{IsFirstMatch};
 ghost use Rattle.lt_triang.specs.Kept.{dimension_of, IsOfSomeForm};
 ghost use Rattle.lt_core.specs.Marks.{matrix_rows};
 ghost use Rattle.std.specs.Arc.{arc_value};
@@ -56,7 +56,7 @@ fn seek<L: Ledger, R: Wait>(
     requires delaunay { IsOfSomeForm beyond.now }
     requires test { IsTest beyond.now test.old }
     ensures kept { IsTest beyond.now test.new }
-    ensures found { IfOk result (λ r. IfSome r (λ x. Carries (dimension_of beyond.now) (matrix_rows x.2) beyond.now (arc_value x.1))) }
+    ensures found { IfOk result (λ r. IfSome r (λ x. IsFirstMatch (dimension_of beyond.now) beyond.now (arc_value x.1) (matrix_rows x.2))) }
 {
     let mut from = test.tested;
     'seeks: for _ in rt.forever() {

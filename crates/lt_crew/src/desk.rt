@@ -4,7 +4,7 @@ ghost use Rattle.std.specs.Prelude.{◌≡◌, ◌≢◌, ◌<◌, ◌≤◌, �
 ghost use Rattle.std.specs.Result.{OnOk, OnErr, IfOk, IfErr};
 ghost use Rattle.std.specs.Option.{IfSome};
 ghost use Rattle.std.specs.Arc.{arc_value};
-ghost use Rattle.lt_crew.specs.Runs.{AreBelow};
+ghost use Rattle.lt_crew.specs.Runs.{AreBelow, AreSettled};
 ghost use Rattle.lt_crew.specs.Shared.{triangulation_of};
 
 use crate::known::{are_known, same_normal};
@@ -54,6 +54,7 @@ pub struct Desk<L: Ledger> {
     ghost counted: { book.total ≡ length atlas.log },
     ghost all_shared: { map arc_value shared.items ≡ map triangulation_of atlas.entries },
     ghost below: { AreBelow steps atlas.log },
+    ghost settled: { AreSettled atlas },
     ghost few_steps: { steps ≤ 100000 },
     ghost few: { length atlas.entries ≤ 100001 + length atlas.log },
 }
@@ -119,6 +120,7 @@ impl<L: Ledger> Desk<L> {
     pub fn open(self, all: &mut Share<L>) -> (Atlas, u64, bool)
         ensures parts { (result.0 ≡ self.atlas) × (result.1 ≡ self.steps) × (result.2 ≡ self.memory) }
         ensures below { AreBelow result.1 result.0.log }
+        ensures settled { AreSettled result.0 }
         ensures few_steps { result.1 ≤ 100000 }
         ensures few { length result.0.entries ≤ 100001 + length result.0.log }
         ensures gathered { all.old.parts ≡ L.parts → all.new.amount ≡ length result.0.log }
@@ -242,6 +244,7 @@ impl<L: Ledger> Desk<L> {
         if !same {
             return Answer::Changed;
         }
+        self.atlas.keeps();
         let Desk { atlas, book, .. } = self;
         match atlas.record_cross(position, target, matrix) {
             Ok(()) => {
@@ -273,6 +276,7 @@ impl<L: Ledger> Desk<L> {
         self.atlas.keeps();
         let entries = self.atlas.entries();
         let Desk { atlas, book, .. } = self;
+        let span = span.unsigned_abs();
         match atlas.record_stuck(position, entries, Mark::Wide { class, span }) {
             Ok(()) => {
                 book.add(share, 1);
@@ -305,6 +309,7 @@ impl<L: Ledger> Desk<L> {
         }
         self.atlas.keeps();
         let Desk { atlas, book, .. } = self;
+        let weight = weight.unsigned_abs();
         match atlas.record_stuck(position, test.tested, Mark::Heavy { weight }) {
             Ok(()) => {
                 book.add(share, 1);

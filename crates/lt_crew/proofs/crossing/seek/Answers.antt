@@ -1,11 +1,11 @@
 use Rattle.std.proofs.Common.{◌≡◌, ◌*◌, ◌∙◌, sym, ap, subst, length, IfSome, MatchOption, refl, ◌++◌, ◌∷◌, []}
 use Rattle.lt_model.specs.Atlases.{Classes}
 use Rattle.lt_model.specs.Flat.{rows}
-use Rattle.lt_model.specs.Matrices.{AreEquivalent, Carries}
+use Rattle.lt_model.specs.Matrices.{AreEquivalent}
 use Rattle.lt_core.specs.Marks.{matrix_rows}
 use Rattle.lt_triang.specs.Kept.{dimension_of}
 use Rattle.lt_match.specs.Matches.{IsFirstMatch}
-use Rattle.lt_crew.proofs.Standing.{same_dimension, match_carries, test_same, test_more}
+use Rattle.lt_crew.proofs.Standing.{same_dimension, match_first, test_same, test_more}
 use Rattle.lt_crew.proofs.crossing.seek.Goals as goal
 
 pub match_types-requires-clause-same : goal.match_types-requires-clause-same
@@ -16,10 +16,10 @@ pub returns-in-Some-2-clause-found : goal.returns-in-Some-2-clause-found
 returns-in-Some-2-clause-found g c =
     let t = c.args.beyond.now in
     let image = c.deref-then-dimension.result.now in
-    let carries = match_carries c.dimension-in-seeks.result t image c.in-Some-2.matrix c.dimension-in-seeks.ensures
+    let first = match_first c.dimension-in-seeks.result t image c.in-Some-2.matrix c.dimension-in-seeks.ensures
     (subst (λ r. IfSome r (λ u. length u ≡ dimension_of t * dimension_of t)) c.in-Some-2.is c.in_ok-matrix.ensures.size)
     (subst (λ r. MatchOption r (AreEquivalent (dimension_of t) t image → ⊥) (λ u. IsFirstMatch (dimension_of t) t image (rows (dimension_of t) u))) c.in-Some-2.is c.in_ok-matrix.ensures.first) in
-    subst (λ (z : Classes). Carries (dimension_of t) (matrix_rows c.in-Some-2.matrix) t z) c.deref-then-dimension.ensures carries
+    subst (λ (z : Classes). IsFirstMatch (dimension_of t) t z (matrix_rows c.in-Some-2.matrix)) c.deref-then-dimension.ensures first
 
 pub returns-then-is_err-clause-kept : goal.returns-then-is_err-clause-kept
 returns-then-is_err-clause-kept g c = test_same c.args.beyond.now c.seeks.test (record { print = c.seeks.test.print; known = c.reserve.new.self; tested = c.seeks.test.tested }) refl c.reserve.ensures.items c.seeks.invariant

@@ -1,6 +1,6 @@
 use Rattle.std.proofs.Common.{◌<◌, ◌≤◌, ◌+◌, ◌∙◌, length, arith, sym, subst, inl, inr, ◌⊎◌}
 use Rattle.lt_model.specs.Atlases as model
-use Rattle.lt_crew.specs.Runs.{IsSettledBelow}
+use Rattle.lt_crew.specs.Runs.{AreSettled, IsSettledBelow}
 use Rattle.lt_crew.proofs.Events.{few_events}
 use Rattle.lt_crew.proofs.Remaining.{IsRestTo, rest_goes_on, rest_steps, rest_ends}
 use Rattle.lt_crew.proofs.rest.settle_rest.Goals.{then-is_open+in-Ok, else-is_open, then-loop-position-test+else-position-queued, else-loop-position-test}
@@ -36,3 +36,6 @@ returns-clause-settled c = λ _.
       | else-loop-position-test w ↦ inl (omega (arith, w.loop-position-test.false))
     ] in
     subst (λ (z : model.Atlas). IsSettledBelow c.args.steps z) (sym c.end_of-2.ensures.atlas) (rest_ends c.args.atlas a c.args.steps c.loop-position.position i c.keeps-2.ensures.kept end)
+
+pub returns-clause-events : goal.returns-clause-events
+returns-clause-events c = subst (λ (z : model.Atlas). AreSettled z) (sym c.end_of-2.ensures.atlas) c.loop-position.invariant.events
