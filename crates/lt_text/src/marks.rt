@@ -1,6 +1,6 @@
 //! The lines of marks.
 
-ghost use Rattle.std.specs.Prelude.{pos, [], ◌∷◌, map, codes, nat_abs};
+ghost use Rattle.std.specs.Prelude.{pos, [], ◌∷◌, map, codes};
 ghost use Rattle.std.specs.List.{flat_map};
 ghost use Rattle.lt_io.specs.Causes.{HasCause};
 ghost use Rattle.lt_io.specs.Bytes.{Wrote};
@@ -29,13 +29,13 @@ fn write_cross<K: Sink>(out: &mut K, target: u32, matrix: &Matrix) -> Result<(),
 }
 
 /// Writes the line of a heavy mark.
-fn write_heavy<K: Sink>(out: &mut K, weight: i128) -> Result<(), Failed>
-    ensures bytes { Wrote (K.held out.old) (K.held out.new) result (mark_line (heavy (nat_abs weight))) }
+fn write_heavy<K: Sink>(out: &mut K, weight: u128) -> Result<(), Failed>
+    ensures bytes { Wrote (K.held out.old) (K.held out.new) result (mark_line (heavy weight)) }
     ensures cause { HasCause (K.faults out.old) (K.faults out.new) result }
 {
     let mut buffer = Buffer::new();
     write_all(out, b"heavy ")?;
-    write_line(out, buffer.format(weight.unsigned_abs()).as_bytes(), &[])
+    write_line(out, buffer.format(weight).as_bytes(), &[])
 }
 
 impl Line for Mark {
@@ -48,7 +48,7 @@ impl Line for Mark {
             Mark::Wide { class, span } => write_list(
                 out,
                 b"wide",
-                span.unsigned_abs(),
+                *span,
                 coordinates_of(class).as_slice(),
             ),
             Mark::Heavy { weight } => write_heavy(out, *weight),

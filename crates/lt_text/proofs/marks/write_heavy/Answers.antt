@@ -1,9 +1,7 @@
-use Rattle.std.proofs.Common.{ℕ, ℤ, List, [], nat_abs, ap, refl, ◌∙◌, rules, FitsSigned}
+use Rattle.std.proofs.Common.{ℕ, List, [], ap, refl, ◌∙◌}
 use Rattle.std.specs.Prelude.{codes}
 use Rattle.std.proofs.lemmas.Result.{err_from_is_err_and}
 use Rattle.std.specs.Fmt.{decimal}
-use Rattle.std.specs.Int.{w128}
-use Rattle.std.proofs.lemmas.Int.{to_z-of_z}
 use Rattle.lt_lines.specs.Lines.{line}
 use Rattle.lt_text.proofs.Composed.{first_front, both_written}
 use Rattle.lt_text.proofs.marks.write_heavy.Goals as goal
@@ -11,10 +9,8 @@ use Rattle.lt_text.proofs.marks.write_heavy.Goals as goal
 pub returns-in_err-write_all-clause-bytes : goal.returns-in_err-write_all-clause-bytes
 returns-in_err-write_all-clause-bytes g c =
     let p = err_from_is_err_and c.from_residual.result c.from_residual.ensures.1 in
-    let fits : FitsSigned w128 c.args.weight = search rules in
-    first_front _ _ _ _ _ (codes "heavy ") (line (decimal (nat_abs c.args.weight)) []) p.1 refl c.in_err-write_all.ensures.bytes.front
+    first_front _ _ _ _ _ (codes "heavy ") (line (decimal c.args.weight) []) p.1 refl c.in_err-write_all.ensures.bytes.front
 
 pub returns-clause-bytes : goal.returns-clause-bytes
 returns-clause-bytes g c =
-    let fits : FitsSigned w128 c.args.weight = search rules in
-    both_written _ _ _ _ _ _ (codes "heavy ") (line (decimal (nat_abs c.args.weight)) []) refl (ap (λ (l : List ℕ). line l []) (c.as_bytes.ensures.value ∙ c.format.ensures.text ∙ ap decimal c.unsigned_abs.ensures.value ∙ ap (λ (z : ℤ). decimal (nat_abs z)) (to_z-of_z w128 c.args.weight fits))) c.in_ok-write_all.ensures.bytes.whole c.write_line.ensures.bytes
+    both_written _ _ _ _ _ _ (codes "heavy ") (line (decimal c.args.weight) []) refl (ap (λ (l : List ℕ). line l []) (c.as_bytes.ensures.value ∙ c.format.ensures.text)) c.in_ok-write_all.ensures.bytes.whole c.write_line.ensures.bytes
