@@ -13,6 +13,7 @@ use Rattle.lt_model.specs.Matrices.{Carries, AreEquivalent}
 use Rattle.lt_model.specs.Flat.{rows}
 use Rattle.lt_model.specs.Walls.{IsAcross}
 use Rattle.lt_geometry.proofs.Images.{carries_back}
+use Rattle.lt_crew.specs.Runs.{IsRunOf, AreBelow, IsSettledBelow}
 use Rattle.lt_triang.specs.Kept.{IsTriangulation, dimension_of}
 use Rattle.lt_match.proofs.Tested.{dimension_is}
 use Rattle.lt_drill.specs.Scrambles.{IsScrambleOf}
@@ -29,7 +30,8 @@ use Rattle.lt_words.specs.Grammar.{IsDimension}
 use Rattle.ltypes.specs.declared.status.Cause.{Cause}
 use Rattle.ltypes.specs.declared.status.Cause.TheVariants.{Finished, Done, Unfinished, Words, Refused, Memory, ReadFault, WriteFault}
 use Rattle.ltypes.specs.Changes.{Change, change}
-use Rattle.ltypes.specs.Drills.{IsDrilled, IsUnread, IsUndrilled, AnswersDrill}
+use Rattle.ltypes.specs.Drills.{IsDrilled, AreDrilled, IsUnread, IsUndrilled, AnswersDrill}
+use Rattle.ltypes.proofs.Ending.{is_run}
 
 -- ---- matching
 
@@ -58,6 +60,15 @@ front_too_long limit held text (front, back, all, is) more =
     let whole : length front + length back ≡ length text = sym (length-append front back) ∙ ap length all in
     let part : length held ≡ length front = ap length is in
     omega (arith, whole, part, more)
+
+-- the same, of what a sink gained that held nothing
+pub gained_too_long : (d limit : ℕ) (old held text : List ℕ) → old ≡ [] → limit ≡ input_limit d → AppendsFront (Some old) (Some held) text → limit < length held → input_limit d < length text
+gained_too_long d limit old held text none same front more =
+    let long = front_too_long limit held text (subst (λ (l : List ℕ). AppendsFront (Some l) (Some held) text) none front) more in
+    omega (arith, long, same)
+
+pub gained_all : (old held text : List ℕ) → old ≡ [] → held ≡ old ++ text → held ≡ text
+gained_all old held text none all = all ∙ ap (λ (l : List ℕ). l ++ text) none
 
 module _ (d : ℕ) (a : Atlas) (run : IsOfRun a) (at : a.dimension ≡ d) (few : length a.entries ≤ 100001) where
   is_resumed : length (atlas_text a) ≤ input_limit d → IsResumed a
@@ -103,6 +114,19 @@ drilled_run d seed turns a (low, high) h =
       kept = subst (λ (z : ℕ). IsKept (IsAcross z) a) same h.kept;
       began = start_free d (begin a) h.begins;
     }
+
+-- the two atlases of a drill: s is what the text of a was read as, and b is that of the run from s
+pub are_drilled : (d seed turns : ℕ) (a s b : Atlas) → IsDrilled d seed turns a → length (atlas_text a) ≤ input_limit d → s ≡ resumed a → IsRunOf s b → AreBelow (2 * turns + 100) b.log → IsSettledBelow (2 * turns + 100) b →
+    IsKept (IsAcross b.dimension) b → AreDrilled d seed turns a b
+are_drilled d seed turns a s b h short same run below settled kept =
+    record { drilled = h; short = short; run = is_run d 1 (2 * turns + 100) (resumed a) b h.dimension (run.begins ∙ same) below (λ _. run.order) kept; settled = settled }
+
+-- the atlas that is read is one from which a run may go on
+pub unrun : (a s : Atlas) → s ≡ resumed a → s.log ≡ []
+unrun a s same = ap (λ (z : Atlas). z.log) same
+
+pub as_many : (a s : Atlas) → s ≡ resumed a → length s.entries ≡ length a.entries
+as_many a s same = ap (λ (z : Atlas). length z.entries) same
 
 -- where there is nothing to write, the cause is the answer
 pub undrilled : (d seed turns before now : ℕ) (held : Option (List ℕ)) (cause : Cause) → IsUndrilled d seed turns cause → AnswersDrill d seed turns (change held held before now) cause

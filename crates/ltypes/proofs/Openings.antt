@@ -1,5 +1,5 @@
 -- The open positions of a queue: their number is 0 only where no mark is open.
-use Rattle.std.proofs.Common.{◌≡◌, ℕ, zero, suc, ◌+◌, ◌<◌, ◌≤◌, refl, arith, sym, ap, ◌∙◌, subst, inl, inr, ◌⊎◌, List, [], ◌∷◌, length, get_or}
+use Rattle.std.proofs.Common.{◌≡◌, ℕ, zero, suc, ◌+◌, ◌<◌, ◌≤◌, refl, arith, add-one, sym, ap, ◌∙◌, subst, inl, inr, ◌⊎◌, List, [], ◌∷◌, length, get_or}
 use Rattle.std.specs.List.{Contains}
 use Rattle.std.proofs.lemmas.Bool.{cases_lt}
 use Rattle.std.proofs.lemmas.List.{get_or_default}
@@ -68,3 +68,11 @@ module _ (a : Atlas) (kept : IsKept (IsAcross a.dimension) a) where
       let there : mark_at a.marks (place_at a.queue p) ≡ open_mark = ap (mark_at a.marks) (get_or_default a.queue p (0, 0) (j, f) here ∙ e) ∙ o in
       let some = counted a (length a.queue) p here there in
       omega (arith, none, some))
+
+-- ---- one position more
+
+pub one_more_open : (a : Atlas) (p : ℕ) → mark_at a.marks (place_at a.queue p) ≡ open_mark → open_before a (p + 1) ≡ open_before a p + 1
+one_more_open a p e = let one = open_counts (mark_at a.marks (place_at a.queue p)) e in rw (add-one p) (omega (arith, one))
+
+pub as_many_open : (a : Atlas) (p : ℕ) → (mark_at a.marks (place_at a.queue p) ≡ open_mark → ⊥) → open_before a (p + 1) ≡ open_before a p
+as_many_open a p n = let none = other_counts (mark_at a.marks (place_at a.queue p)) n in rw (add-one p) (omega (arith, none))

@@ -1,5 +1,6 @@
 -- A drill, turn after turn: each event of its log stands at the position that was drawn.
-use Rattle.std.proofs.Common.{◌≡◌, ℕ, zero, suc, ◌+◌, ◌<◌, ◌≤◌, refl, arith, sym, ap, ◌∙◌, subst, inl, inr, ◌⊎◌, List, [], ◌∷◌, ◌++◌, length}
+use Rattle.std.proofs.Common.{◌≡◌, ℕ, zero, suc, ◌+◌, ◌<◌, ◌≤◌, refl, arith, add-one, sym, ap, ◌∙◌, subst, inl, inr, ◌⊎◌, List, [], ◌∷◌, ◌++◌, length}
+use Rattle.std.specs.Prelude.{Result, Ok, Err, OnOk}
 use Rattle.std.proofs.lemmas.Bool.{cases_lt}
 use Rattle.std.proofs.lemmas.List.{get_or_at, get_or_append_left}
 use Rattle.lt_model.specs.Atlases.{cross, wide, heavy, Event, Atlas, no_event, event_at, push, grow, cut, begin, Mark, Entry, undecided}
@@ -96,12 +97,12 @@ module _ (s : Atlas) (seed x n : ℕ) (a b : Atlas) (before : IsDrilledTo s seed
       let number : answer_at (next_state x) (open_positions a) ≡ drawn (suc n) seed (open_positions a) = ap (λ (y : ℕ). answer_at (next_state y) (open_positions a)) before.state in
       subst (λ (c : Atlas). IsOpenNumber c (drawn (suc n) seed (open_positions c)) (event_at b.log n).position) (sym met)
       (subst (λ (p : ℕ). IsOpenNumber a (drawn (suc n) seed (open_positions a)) p) (sym at)
-        (subst (λ (r : ℕ). IsOpenNumber a r turn.position) number turn.drawn))
+      (subst (λ (r : ℕ). IsOpenNumber a r turn.position) number turn.drawn))
 
-  pub next_turn : IsDrilledTo s seed (next_state x) (n + 1) b
-  next_turn = record {
-    state = ap next_state before.state ∙ ap (λ (k : ℕ). after k seed) (omega arith);
-    done = omega (arith, long);
+  next : IsDrilledTo s seed (next_state x) (suc n) b
+  next = record {
+    state = ap next_state before.state;
+    done = long;
     begins = step.cuts 0 (omega arith) ∙ before.begins;
     drawn = λ i l. elim (cases_lt i n) [
       | inl h ↦ earlier i h
@@ -109,6 +110,19 @@ module _ (s : Atlas) (seed x n : ℕ) (a b : Atlas) (before : IsDrilledTo s seed
     ];
     few = let e = step.entries in let f = before.few in omega (arith, e, f);
   }
+
+  pub next_turn : IsDrilledTo s seed (next_state x) (n + 1) b
+  next_turn = subst (λ (k : ℕ). IsDrilledTo s seed (next_state x) k b) (sym (add-one n)) next
+
+-- what a turn draws and settles
+pub takes : (x y count number p : ℕ) (a b : Atlas) → y ≡ next_state x → number ≡ answer_at y count → count ≡ open_positions a → IsOpenNumber a number p → IsSettled a p b → IsTurn x a b
+takes x y count number p a b state answer all here settled =
+    let e : number ≡ answer_at (next_state x) (open_positions a) = answer ∙ ap (λ (z : ℕ). answer_at z count) state ∙ ap (λ (z : ℕ). answer_at (next_state x) z) all in
+    record { position = p; drawn = subst (λ (r : ℕ). IsOpenNumber a r p) e here; settled = settled }
+
+pub on_ok : {T E : Type 0} {P Q : Type 0} → (r : Result T E) → (P → Q) → OnOk r P → OnOk r Q
+on_ok (Ok x) f p = f p
+on_ok (Err e) f p = tt
 
 -- the end of the turns
 module _ (d seed turns x n : ℕ) (s a : Atlas) (start : IsStarting d s) (h : IsDrilledTo s seed x n a) (kept : IsKept (IsAcross a.dimension) a) where

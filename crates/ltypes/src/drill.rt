@@ -70,8 +70,12 @@ fn read_again(alloc: Global, d: u8, atlas: &Atlas) -> Result<Atlas, Cause>
     };
     match write_atlas(atlas, &mut sink) {
         Ok(()) => {}
-        Err(Failed) if sink.bytes().len() > limit => return Err(Cause::Refused(Refusal::TooLong)),
-        Err(Failed) => return Err(Cause::Memory),
+        Err(Failed) => {
+            if sink.bytes().len() > limit {
+                return Err(Cause::Refused(Refusal::TooLong));
+            }
+            return Err(Cause::Memory);
+        }
     }
     let mut source = SliceSource::new(sink.bytes());
     match read_atlas(alloc, &mut source, d) {
@@ -110,7 +114,7 @@ fn drill(alloc: Global, d: u8, seed: u64, turns: u64) -> Result<Findings, Cause>
         return Err(Cause::Memory);
     };
     start.keeps();
-    let Ok(matched) = matched(alloc, &start, &mut draws) else {
+    let Ok(count) = matched(alloc, &start, &mut draws) else {
         return Err(Cause::Memory);
     };
     let again = match read_again(alloc, d, &start) {
@@ -124,7 +128,7 @@ fn drill(alloc: Global, d: u8, seed: u64, turns: u64) -> Result<Findings, Cause>
     ended.atlas.keeps();
     Ok(Findings {
         start,
-        matched,
+        matched: count,
         end: ended.atlas,
     })
 }

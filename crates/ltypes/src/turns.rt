@@ -42,12 +42,7 @@ fn open_position(atlas: &Atlas, number: u64) -> u64
 }
 
 /// Settles one of the `count` open positions, which the generator draws. Memory where memory was refused.
-fn take_turn(
-    alloc: Global,
-    atlas: &mut Atlas,
-    draws: &mut Draws,
-    count: u64,
-) -> Result<(), Memory>
+fn take_turn(alloc: Global, atlas: &mut Atlas, draws: &mut Draws, count: u64) -> Result<(), Memory>
     requires some { 1 ≤ count }
     requires count { count ≡ open_positions atlas.old }
     requires few { length atlas.old.entries < 2 ^ 30 }
@@ -70,11 +65,13 @@ pub fn drilled(alloc: Global, d: u8, draws: &mut Draws, turns: u64) -> Result<At
         return Err(Memory);
     };
     for _turn in 0..turns {
+        atlas.keeps();
         let count = count_open(&atlas);
         if count == 0 {
             return Ok(atlas);
         }
         take_turn(alloc, &mut atlas, draws, count)?;
     }
+    atlas.keeps();
     Ok(atlas)
 }
