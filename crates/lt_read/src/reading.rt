@@ -18,7 +18,7 @@ use lt_io::{Source, read_all};
 use std::alloc::Global;
 
 /// The greatest number of bytes of an input.
-fn input_limit(d: u8) -> usize
+pub fn input_limit(d: u8) -> usize
     ensures { result ≡ limits.input_limit d }
 {
     if d <= 5 { 1 << 26 } else { 1 << 30 }

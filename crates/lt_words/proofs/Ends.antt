@@ -3,7 +3,7 @@ use Rattle.std.proofs.Common.{◌≡◌, ℕ, Bool, true, false, List, [], ◌�
 use Rattle.std.specs.Option.{unwrap_or}
 use Rattle.std.specs.Fmt.{decimal}
 use Rattle.lt_words.specs.declared.words.Command.{Command}
-use Rattle.lt_words.specs.declared.words.Command.TheVariants.{Principal, Summary, Check, Run}
+use Rattle.lt_words.specs.declared.words.Command.TheVariants.{Principal, Summary, Check, Run, Drill}
 use Rattle.lt_words.specs.declared.options.Setting.{Setting}
 use Rattle.lt_words.specs.declared.options.Setting.TheVariants.{Workers, Steps}
 use Rattle.lt_words.specs.declared.options.Options.{Options}
@@ -31,6 +31,7 @@ missing_dimension o due none (Run d w s r) rest =
 missing_dimension o due none (Principal d) rest = (subst (λ u. IsRestBy u o (Principal d) []) due rest).2
 missing_dimension o due none (Summary d r) rest = (subst (λ u. IsRestBy u o (Summary d r) []) due rest).2
 missing_dimension o due none (Check d) rest = (subst (λ u. IsRestBy u o (Check d) []) due rest).2
+missing_dimension o due none (Drill d s l) rest = (subst (λ u. IsRestBy u o (Drill d s l) []) due rest).2
 
 -- ---- what supplies it
 

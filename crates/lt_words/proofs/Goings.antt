@@ -2,7 +2,7 @@
 use Rattle.std.proofs.Common.{◌≡◌, ℕ, Bool, true, false, List, ◌∷◌, ◌↔◌, Option, Some, None, refl, sym, ap, ◌∙◌, subst}
 use Rattle.std.specs.Fmt.{decimal}
 use Rattle.lt_words.specs.declared.words.Command.{Command}
-use Rattle.lt_words.specs.declared.words.Command.TheVariants.{Principal, Summary, Check, Run}
+use Rattle.lt_words.specs.declared.words.Command.TheVariants.{Principal, Summary, Check, Run, Drill}
 use Rattle.lt_words.specs.declared.options.Setting.{Setting}
 use Rattle.lt_words.specs.declared.options.Part.{Part}
 use Rattle.lt_words.specs.declared.options.Part.TheVariants.{Dimension, Resume, Ending, Named, Joined}
@@ -60,6 +60,7 @@ same_complete : (o : Options) (s : Setting) (c : Command) (items : List Item) �
 same_complete o s (Principal d) items = (λ f. f, λ f. f)
 same_complete o s (Summary d r) items = (λ f. f, λ f. f)
 same_complete o s (Check d) items = (λ f. f, λ f. f)
+same_complete o s (Drill d seed l) items = (λ f. f, λ f. f)
 same_complete o s (Run d w t r) items = (
   λ f. record { one_dimension = f.one_dimension; chosen_workers = f.chosen_workers; chosen_steps = f.chosen_steps; resumed = f.resumed; last = f.last },
   λ f. record { one_dimension = f.one_dimension; chosen_workers = f.chosen_workers; chosen_steps = f.chosen_steps; resumed = f.resumed; last = f.last },

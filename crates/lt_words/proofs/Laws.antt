@@ -4,7 +4,7 @@ use Rattle.std.proofs.lemmas.List.{take-append-drop, take-take}
 use Rattle.std.proofs.lemmas.Fmt.{decimal_injective}
 use Rattle.std.specs.Fmt.{decimal}
 use Rattle.lt_words.specs.declared.words.Command.{Command}
-use Rattle.lt_words.specs.declared.words.Command.TheVariants.{Principal, Summary, Check, Run}
+use Rattle.lt_words.specs.declared.words.Command.TheVariants.{Principal, Summary, Check, Run, Drill}
 use Rattle.lt_words.specs.declared.options.Setting.TheVariants.{Workers, Steps}
 use Rattle.lt_words.specs.declared.options.Part.TheVariants.{Dimension, Resume, Ending, Named, Joined}
 use Rattle.lt_words.specs.Grammar.{IsDimension, InRange, Item, dimension, setting, resuming, ending, setting_word, AreSpellings, numbers, times, IsChosen, MakeRun, Spells, Begins, FaultAt, most_steps}
@@ -93,6 +93,11 @@ same_commands (Summary d false) (Summary e false) ws k r q f g = ap (λ n. Summa
 same_commands (Summary d true) (Summary e false) ws k r q f g = absurd (cc)
 same_commands (Summary d false) (Summary e true) ws k r q f g = absurd (cc)
 same_commands (Run d w s r) (Run e v t q) ws k range inside f g = same_runs d e w v s t r q ws f g
+same_commands (Drill d s l) (Drill e t m) ws k (r, below, few) (q, under, less) f g =
+    let dimensions : d ≡ e = same_dimension d e r q (cc) in
+    let seeds : s ≡ t = decimal_injective s t below under (cc) in
+    let turns : l ≡ m = decimal_injective l m (omega (arith, few)) (omega (arith, less)) (cc) in
+    cc
 same_commands _ _ ws k r q f g = absurd (cc)
 
 -- words spell one command at most

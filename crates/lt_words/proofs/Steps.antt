@@ -1,7 +1,7 @@
 -- What one item more makes of what was read behind `run`.
 use Rattle.std.proofs.Common.{◌≡◌, ℕ, ◌≤◌, Bool, true, false, List, [], ◌∷◌, ◌++◌, ◌⊎◌, ◌↔◌, inl, inr, Option, Some, None, refl, sym, ap, ◌∙◌, subst, arith}
 use Rattle.lt_words.specs.declared.words.Command.{Command}
-use Rattle.lt_words.specs.declared.words.Command.TheVariants.{Principal, Summary, Check, Run}
+use Rattle.lt_words.specs.declared.words.Command.TheVariants.{Principal, Summary, Check, Run, Drill}
 use Rattle.lt_words.specs.declared.options.Setting.{Setting}
 use Rattle.lt_words.specs.declared.options.Setting.TheVariants.{Workers, Steps}
 use Rattle.lt_words.specs.declared.options.Options.{Options}
@@ -60,6 +60,7 @@ pub takes_dimension : (o : Options) (x : ℕ) → o.d ≡ None → (c : Command)
 takes_dimension o x none (Principal d) items = (λ f. f, λ f. f)
 takes_dimension o x none (Summary d r) items = (λ f. f, λ f. f)
 takes_dimension o x none (Check d) items = (λ f. f, λ f. f)
+takes_dimension o x none (Drill d s l) items = (λ f. f, λ f. f)
 takes_dimension o x none (Run d w s r) items = (
   λ f. record {
     one_dimension = ap (λ m. listed m ++ x ∷ dimensions items) (sym none) ∙ f.one_dimension;
@@ -83,6 +84,7 @@ one_dimension_alone o x y some (Run d w s r) items f = let e : y ∷ x ∷ dimen
 one_dimension_alone o x y some (Principal d) items f = f
 one_dimension_alone o x y some (Summary d r) items f = f
 one_dimension_alone o x y some (Check d) items f = f
+one_dimension_alone o x y some (Drill d s l) items f = f
 
 at_most_one : (r : Bool) → times r ≤ 1
 at_most_one true = omega arith
@@ -99,6 +101,7 @@ pub takes_resuming : (o : Options) → o.resume ≡ false → o.ended ≡ false 
 takes_resuming o none on (Principal d) items = (λ f. f, λ f. f)
 takes_resuming o none on (Summary d r) items = (λ f. f, λ f. f)
 takes_resuming o none on (Check d) items = (λ f. f, λ f. f)
+takes_resuming o none on (Drill d s l) items = (λ f. f, λ f. f)
 takes_resuming o none on (Run d w s r) items =
     let zero : times o.resume ≡ 0 = ap times none in (
       λ f. record {
@@ -122,12 +125,14 @@ one_resuming_alone o some (Run d w s r) items f = let one : times o.resume ≡ 1
 one_resuming_alone o some (Principal d) items f = f
 one_resuming_alone o some (Summary d r) items f = f
 one_resuming_alone o some (Check d) items f = f
+one_resuming_alone o some (Drill d s l) items f = f
 
 -- `--`
 pub takes_ending : (o : Options) → o.ended ≡ false → (c : Command) (items : List Item) → Complete o c (ending ∷ items) ↔ Complete (record o { ended = true }) c items
 takes_ending o on (Principal d) items = (λ f. f, λ f. f)
 takes_ending o on (Summary d r) items = (λ f. f, λ f. f)
 takes_ending o on (Check d) items = (λ f. f, λ f. f)
+takes_ending o on (Drill d s l) items = (λ f. f, λ f. f)
 takes_ending o on (Run d w s r) items = (
   λ f. record {
     one_dimension = f.one_dimension;
@@ -151,6 +156,7 @@ nothing_else o i ended other (Run d w s r) items f = only_dimension i items (sub
 nothing_else o i ended other (Principal d) items f = f
 nothing_else o i ended other (Summary d r) items f = f
 nothing_else o i ended other (Check d) items f = f
+nothing_else o i ended other (Drill d s l) items f = f
 
 -- ---- settings
 
@@ -165,9 +171,11 @@ pub takes_number : (o : Options) (t : Setting) (n : ℕ) → named o t ≡ None 
 takes_number o Workers n none on (Principal d) items = (λ f. f, λ f. f)
 takes_number o Workers n none on (Summary d r) items = (λ f. f, λ f. f)
 takes_number o Workers n none on (Check d) items = (λ f. f, λ f. f)
+takes_number o Workers n none on (Drill d s l) items = (λ f. f, λ f. f)
 takes_number o Steps n none on (Principal d) items = (λ f. f, λ f. f)
 takes_number o Steps n none on (Summary d r) items = (λ f. f, λ f. f)
 takes_number o Steps n none on (Check d) items = (λ f. f, λ f. f)
+takes_number o Steps n none on (Drill d s l) items = (λ f. f, λ f. f)
 takes_number o Workers n none on (Run d w s r) items =
     let same = first_chosen o.workers 1 n w (numbers Workers items) none in (
       λ f. record {
@@ -213,3 +221,4 @@ one_number_alone o Steps n k some (Run d w s r) items f = two_chosen o.steps mos
 one_number_alone o t n k some (Principal d) items f = f
 one_number_alone o t n k some (Summary d r) items f = f
 one_number_alone o t n k some (Check d) items f = f
+one_number_alone o t n k some (Drill d s l) items f = f

@@ -7,12 +7,12 @@ use Rattle.std.specs.Result.{IsErrAnd}
 use denote.Ref.{Bor}
 use Rattle.std.specs.Fmt.{decimal}
 use Rattle.lt_words.specs.declared.words.Command.{Command}
-use Rattle.lt_words.specs.declared.words.Command.TheVariants.{Principal, Summary, Check, Run}
+use Rattle.lt_words.specs.declared.words.Command.TheVariants.{Principal, Summary, Check, Run, Drill}
 use Rattle.lt_words.specs.declared.words.WordsError.{WordsError}
 use Rattle.lt_words.specs.declared.words.WordsError.TheVariants.{Fault}
 use Rattle.lt_words.specs.declared.words.Kind.{Kind}
 use Rattle.lt_words.specs.declared.words.Kind.TheVariants as kind
-use Rattle.lt_words.specs.Grammar.{texts, place_of, IsDimension, InRange, Spells, IsAccepted, FaultAt}
+use Rattle.lt_words.specs.Grammar.{texts, place_of, most_turns, IsDimension, InRange, Spells, IsAccepted, FaultAt}
 use Rattle.lt_words.specs.Parts.{kind_word, HasFront, HasWord}
 use Rattle.lt_words.proofs.Fronts.{begins, front_alone, longer, fault_at_end, fault_at_word}
 
@@ -23,6 +23,7 @@ kind_of (Principal d) = kind.Principal
 kind_of (Summary d r) = kind.Summary
 kind_of (Check d) = kind.Check
 kind_of (Run d w s r) = kind.Run
+kind_of (Drill d s l) = kind.Drill
 
 -- a command begins with the word of its kind
 pub first_word : (c : Command) (ws : List (List ℕ)) → Spells c ws → (rest : List (List ℕ)) × (ws ≡ kind_word (kind_of c) ∷ rest)
@@ -30,9 +31,10 @@ first_word (Principal d) ws e = (decimal d ∷ [], e)
 first_word (Summary d r) ws e = (decimal d ∷ cond r (codes "--resume" ∷ []) [], e)
 first_word (Check d) ws e = (decimal d ∷ [], e)
 first_word (Run d w s r) ws (rest, items, e, m, made) = (rest, e)
+first_word (Drill d s l) ws e = (decimal d ∷ decimal s ∷ decimal l ∷ [], e)
 
 kind_at : ℕ → Kind
-kind_at n = cond (eqb n 112) kind.Principal (cond (eqb n 115) kind.Summary (cond (eqb n 99) kind.Check kind.Run))
+kind_at n = cond (eqb n 112) kind.Principal (cond (eqb n 115) kind.Summary (cond (eqb n 99) kind.Check (cond (eqb n 100) kind.Drill kind.Run)))
 
 kind_again : (k : Kind) → kind_at (get_or (kind_word k) 0 0) ≡ k
 unfolding kind_at
@@ -40,6 +42,7 @@ kind_again kind.Principal = refl
 kind_again kind.Summary = refl
 kind_again kind.Check = refl
 kind_again kind.Run = refl
+kind_again kind.Drill = refl
 
 -- kinds have different words
 pub same_kind : (k l : Kind) → kind_word k ≡ kind_word l → k ≡ l
@@ -53,6 +56,7 @@ IsEnd kind.Principal ts = ts ≡ []
 IsEnd kind.Summary ts = (ts ≡ []) ⊎ (ts ≡ codes "--resume" ∷ [])
 IsEnd kind.Check ts = ts ≡ []
 IsEnd kind.Run ts = ⊥
+IsEnd kind.Drill ts = (s : ℕ) × (l : ℕ) × (s < 2 ^ 64) × (l ≤ most_turns) × (ts ≡ decimal s ∷ decimal l ∷ [])
 
 -- what stands behind the first word
 abbrev IsTail : Kind → List (List ℕ) → Type 0
@@ -64,6 +68,7 @@ tail_of (Summary d true) ts r e other = (d, codes "--resume" ∷ [], r, cc, inr 
 tail_of (Summary d false) ts r e other = (d, [], r, cc, inl refl)
 tail_of (Check d) ts r e other = (d, [], r, cc, refl)
 tail_of (Run d w s r) ts range e other = absurd (other refl)
+tail_of (Drill d s l) ts (r, below, few) e other = (d, decimal s ∷ decimal l ∷ [], r, cc, (s, l, below, few, refl))
 
 tail : (k : Kind) (ts : List (List ℕ)) → (k ≡ kind.Run → ⊥) → IsAccepted (kind_word k ∷ ts) → IsTail k ts
 tail k ts other (c, r, s) =
@@ -78,6 +83,7 @@ accepts kind.Summary ts (d, end, r, e, inl is) = (Summary d false, r, ap (λ l. 
 accepts kind.Summary ts (d, end, r, e, inr is) = (Summary d true, r, ap (λ l. codes "summary" ∷ l) (e ∙ ap (λ l. decimal d ∷ l) is))
 accepts kind.Check ts (d, end, r, e, is) = (Check d, r, ap (λ l. codes "check" ∷ l) (e ∙ ap (λ l. decimal d ∷ l) is))
 accepts kind.Run ts (d, end, r, e, is) = absurd is
+accepts kind.Drill ts (d, end, r, e, (s, l, below, few, is)) = (Drill d s l, (r, below, few), ap (λ m. codes "drill" ∷ m) (e ∙ ap (λ m. decimal d ∷ m) is))
 
 -- ---- faults
 
@@ -97,6 +103,7 @@ some_end kind.Principal other = ([], refl)
 some_end kind.Summary other = ([], inl refl)
 some_end kind.Check other = ([], refl)
 some_end kind.Run other = absurd (other refl)
+some_end kind.Drill other = (decimal 0 ∷ decimal 0 ∷ [], (0, 0, omega arith, omega arith, refl))
 
 -- no dimension stands behind the first word
 pub dimension_fault : (ws : List (List ℕ)) (k : Kind) → (k ≡ kind.Run → ⊥) → HasFront ws (kind_word k ∷ []) → ((d : ℕ) → IsDimension d → HasWord ws 1 (decimal d) → ⊥) → FaultAt ws 1
@@ -117,6 +124,13 @@ later_fault ws k d front more other r has goes outside here =
 pub with_dimension : (ws : List (List ℕ)) (k : Kind) (d : ℕ) → HasFront ws (kind_word k ∷ []) → HasWord ws 1 (decimal d) → HasFront ws (kind_word k ∷ decimal d ∷ [])
 with_dimension ws k d has w = longer ws (kind_word k ∷ []) (decimal d) has w.0 w.1
 
+-- the words of a drill begin with the seed behind it, and with the number of turns
+pub with_seed : (ws : List (List ℕ)) (d s : ℕ) → HasFront ws (codes "drill" ∷ decimal d ∷ []) → HasWord ws 2 (decimal s) → HasFront ws (codes "drill" ∷ decimal d ∷ decimal s ∷ [])
+with_seed ws d s has w = longer ws (codes "drill" ∷ decimal d ∷ []) (decimal s) has w.0 w.1
+
+pub with_turns : (ws : List (List ℕ)) (d s l : ℕ) → HasFront ws (codes "drill" ∷ decimal d ∷ decimal s ∷ []) → HasWord ws 3 (decimal l) → HasFront ws (codes "drill" ∷ decimal d ∷ decimal s ∷ decimal l ∷ [])
+with_turns ws d s l has w = longer ws (codes "drill" ∷ decimal d ∷ decimal s ∷ []) (decimal l) has w.0 w.1
+
 -- a word more than `principal D` or `check D`
 pub third_word : (ws : List (List ℕ)) (k : Kind) (d : ℕ) → (k ≡ kind.Run → ⊥) → IsDimension d → HasFront ws (kind_word k ∷ decimal d ∷ []) → IsEnd k [] → ((v : List ℕ) (rest : List (List ℕ)) → HasWord ws 2 v → IsEnd k (v ∷ rest) → ⊥) → 2 < length ws → FaultAt ws 2
 third_word ws k d other r has end here more = later_fault ws k d [] [] other r has end (λ len t. omega (arith, len, more)) here
@@ -124,6 +138,27 @@ third_word ws k d other r has end here more = later_fault ws k d [] [] other r h
 -- a word more than `summary D --resume`
 pub fourth_word : (ws : List (List ℕ)) (d : ℕ) → IsDimension d → HasFront ws (codes "summary" ∷ decimal d ∷ codes "--resume" ∷ []) → 3 < length ws → FaultAt ws 3
 fourth_word ws d r has more = later_fault ws kind.Summary d (codes "--resume" ∷ []) [] (λ e. cc) r has (inr refl) (λ len t. omega (arith, len, more)) (λ v rest w t. elim t [ inl e ↦ cc | inr e ↦ cc ])
+
+-- no seed stands behind `drill D`
+pub seed_fault : (ws : List (List ℕ)) (d : ℕ) → IsDimension d → HasFront ws (codes "drill" ∷ decimal d ∷ []) → ((s : ℕ) → s < 2 ^ 64 → HasWord ws 2 (decimal s) → ⊥) → FaultAt ws 2
+seed_fault ws d r has none =
+    later_fault ws kind.Drill d [] (decimal 0 ∷ decimal 0 ∷ []) (λ e. cc) r has (0, 0, omega arith, omega arith, refl)
+    (λ len t. let e = t.4 in absurd (cc))
+    (λ v rest w t. let e = t.4 in none t.0 t.2 (w.0, w.1 ∙ cc))
+
+-- and no number of turns behind the seed
+pub turns_fault : (ws : List (List ℕ)) (d s : ℕ) → IsDimension d → s < 2 ^ 64 → HasFront ws (codes "drill" ∷ decimal d ∷ decimal s ∷ []) → ((l : ℕ) → l ≤ most_turns → HasWord ws 3 (decimal l) → ⊥) → FaultAt ws 3
+turns_fault ws d s r below has none =
+    later_fault ws kind.Drill d (decimal s ∷ []) (decimal 0 ∷ []) (λ e. cc) r has (s, 0, below, omega arith, refl)
+    (λ len t. let e = t.4 in absurd (cc))
+    (λ v rest w t. let e = t.4 in none t.1 t.3 (w.0, w.1 ∙ cc))
+
+-- a word more than `drill D SEED LENGTH`
+pub fifth_word : (ws : List (List ℕ)) (d s l : ℕ) → IsDimension d → s < 2 ^ 64 → l ≤ most_turns → HasFront ws (codes "drill" ∷ decimal d ∷ decimal s ∷ decimal l ∷ []) → 4 < length ws → FaultAt ws 4
+fifth_word ws d s l r below few has more =
+    later_fault ws kind.Drill d (decimal s ∷ decimal l ∷ []) [] (λ e. cc) r has (s, l, below, few, refl)
+    (λ len t. omega (arith, len, more))
+    (λ v rest w t. let e = t.4 in cc)
 
 -- ---- the first word
 

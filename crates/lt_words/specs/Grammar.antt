@@ -3,7 +3,7 @@ use Rattle.std.specs.Prelude.{◌≡◌, ℕ, suc, ◌+◌, ◌^◌, ◌<◌, �
 use Rattle.std.specs.Fmt.{decimal}
 use Rattle.lt_model.specs.Limits.{step_limit}
 use Rattle.lt_words.specs.declared.words.Command.{Command}
-use Rattle.lt_words.specs.declared.words.Command.TheVariants.{Principal, Summary, Check, Run}
+use Rattle.lt_words.specs.declared.words.Command.TheVariants.{Principal, Summary, Check, Run, Drill}
 use Rattle.lt_words.specs.declared.words.WordsError.{WordsError}
 use Rattle.lt_words.specs.declared.words.WordsError.TheVariants.{Fault}
 use Rattle.lt_words.specs.declared.options.Setting.{Setting}
@@ -28,6 +28,10 @@ most_workers = 64
 abbrev pub most_steps : ℕ
 most_steps = step_limit 5
 
+-- the greatest number of turns of a drill
+abbrev pub most_turns : ℕ
+most_turns = 1000
+
 -- a number that an option of a run takes
 abbrev pub IsInSetting : Setting → ℕ → Type 0
 IsInSetting Workers n = (1 ≤ n) × (n ≤ most_workers)
@@ -39,6 +43,7 @@ InRange (Principal d) = IsDimension d
 InRange (Summary d resume) = IsDimension d
 InRange (Check d) = IsDimension d
 InRange (Run d workers steps resume) = IsDimension d × IsInSetting Workers workers × IsInSetting Steps steps
+InRange (Drill d seed turns) = IsDimension d × (seed < 2 ^ 64) × (turns ≤ most_turns)
 
 -- ---- what stands behind the word `run`
 
@@ -133,6 +138,7 @@ Spells (Check d) ws = ws ≡ codes "check" ∷ decimal d ∷ []
 Spells (Run d workers steps resume) ws =
     (rest : List (List ℕ)) × (items : List Item) × (ws ≡ codes "run" ∷ rest) × AreSpellings items rest ×
     MakeRun d workers steps resume items
+Spells (Drill d seed turns) ws = ws ≡ codes "drill" ∷ decimal d ∷ decimal seed ∷ decimal turns ∷ []
 
 -- the words are those of a command
 abbrev pub IsAccepted : List (List ℕ) → Type 0

@@ -13,6 +13,7 @@ kind_word kind.Principal = codes "principal"
 kind_word kind.Summary = codes "summary"
 kind_word kind.Check = codes "check"
 kind_word kind.Run = codes "run"
+kind_word kind.Drill = codes "drill"
 
 -- the words begin with these
 abbrev pub HasFront : List (List ℕ) → List (List ℕ) → Type 0

@@ -2,7 +2,7 @@
 use Rattle.std.specs.Prelude.{◌≡◌, ℕ, ◌+◌, ◌*◌, Bool, true, false, List, [], ◌∷◌, ◌++◌, ◌⊎◌, ◌↔◌, Option, Some, None, IfSome}
 use Rattle.std.specs.Fmt.{decimal}
 use Rattle.lt_words.specs.declared.words.Command.{Command}
-use Rattle.lt_words.specs.declared.words.Command.TheVariants.{Principal, Summary, Check, Run}
+use Rattle.lt_words.specs.declared.words.Command.TheVariants.{Principal, Summary, Check, Run, Drill}
 use Rattle.lt_words.specs.declared.options.Setting.{Setting}
 use Rattle.lt_words.specs.declared.options.Setting.TheVariants.{Workers, Steps}
 use Rattle.lt_words.specs.declared.options.Options.{Options}
@@ -61,6 +61,7 @@ abbrev pub Complete : Options → Command → List Item → Type 0
 Complete o (Principal d) items = ⊥
 Complete o (Summary d resume) items = ⊥
 Complete o (Check d) items = ⊥
+Complete o (Drill d s l) items = ⊥
 Complete o (Run d workers steps resume) items = CompleteRun o d workers steps resume items
 
 -- with this number of a setting, what was read is this

@@ -8,6 +8,9 @@ ghost use Rattle.lt_words.specs.Parts.{HasFront, HasWord, IsWithin};
 use crate::numbers::number_of;
 use crate::words::{Command, WordsError};
 
+/// The greatest number of turns of a drill.
+const MOST_TURNS: u64 = 1000;
+
 /// The number, `low` to `high`, that the word at a place spells.
 fn number_at(words: &[&str], place: u32, low: u64, high: u64) -> Result<u64, WordsError>
     ensures found { IfOk result (λ n. IsWithin low high n × HasWord (texts words.now) place (decimal n)) }
@@ -84,4 +87,17 @@ pub fn read_summary(words: &[&str]) -> Result<Command, WordsError>
     let resume = is_at(words, 2, "--resume");
     end_at(words, if resume { 3 } else { 2 })?;
     Ok(Command::Summary { d, resume })
+}
+
+/// The command `drill`, with its dimension, seed and number of turns to come.
+pub fn read_drill(words: &[&str]) -> Result<Command, WordsError>
+    requires { HasFront (texts words.now) (codes "drill" ∷ []) }
+    ensures command { IfOk result (λ c. InRange c × Spells c (texts words.now)) }
+    ensures fault { IfErr result (λ e. FaultAt (texts words.now) (place_of e)) }
+{
+    let d = dimension_at(words)?;
+    let seed = number_at(words, 2, 0, u64::MAX)?;
+    let length = number_at(words, 3, 0, MOST_TURNS)?;
+    end_at(words, 4)?;
+    Ok(Command::Drill { d, seed, length })
 }

@@ -3,7 +3,7 @@ ghost use Rattle.lt_words.specs.Grammar.{texts, InRange, Spells, FaultAt, place_
 ghost use Rattle.lt_words.specs.Parts.{kind_word};
 ghost use Rattle.lt_words.specs.Laws.{EveryFaultHasOnePlace, NoCommandHasAFault, WordsSpellOneCommand, StepLimitsAreOne};
 
-use crate::fixed::{read_check, read_principal, read_summary};
+use crate::fixed::{read_check, read_drill, read_principal, read_summary};
 use crate::options::read_run;
 use thiserror::Error;
 
@@ -32,6 +32,13 @@ pub enum Command {
         steps: u64,
         resume: bool,
     },
+    /// `drill D SEED LENGTH`: settle `length` positions of the queue, at most 1000, that a generator draws from its
+    /// `seed`, write the atlas, read it again and go on. The seed is any number below 2^64.
+    Drill {
+        d: u8,
+        seed: u64,
+        length: u64,
+    },
 }
 
 /// Why words are no command.
@@ -50,6 +57,7 @@ enum Kind {
     Summary,
     Check,
     Run,
+    Drill,
 }
 
 /// The kind that a word tells.
@@ -62,6 +70,7 @@ fn kind_of(word: &str) -> Option<Kind>
         "summary" => Some(Kind::Summary),
         "check" => Some(Kind::Check),
         "run" => Some(Kind::Run),
+        "drill" => Some(Kind::Drill),
         _ => None,
     }
 }
@@ -81,6 +90,7 @@ pub fn read_words(words: &[&str]) -> Result<Command, WordsError>
         Some(Kind::Summary) => read_summary(words),
         Some(Kind::Check) => read_check(words),
         Some(Kind::Run) => read_run(words),
+        Some(Kind::Drill) => read_drill(words),
     }
 }
 

@@ -1,8 +1,11 @@
 pub mod Closed
 pub mod Counts
+pub mod Drilled
 pub mod Ending
+pub mod Openings
 pub mod Outputs
 pub mod Resuming
 pub mod SameFacets
 pub mod Started
 pub mod Summed
+pub mod Turned

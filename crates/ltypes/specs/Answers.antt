@@ -6,12 +6,13 @@ use Rattle.lt_io.specs.Causes.{Rose}
 use Rattle.lt_io.specs.Bytes.{AppendsFront}
 use Rattle.lt_model.specs.Atlases.{Atlas}
 use Rattle.lt_words.specs.declared.words.Command.{Command}
-use Rattle.lt_words.specs.declared.words.Command.TheVariants.{Principal, Summary, Check, Run}
+use Rattle.lt_words.specs.declared.words.Command.TheVariants.{Principal, Summary, Check, Run, Drill}
 use Rattle.lt_words.specs.Grammar.{InRange, Spells, FaultAt}
 use Rattle.ltypes.specs.declared.status.Cause.{Cause}
 use Rattle.ltypes.specs.declared.status.Cause.TheVariants.{Finished, Done, Unfinished, Words, Refused, Memory, ReadFault, WriteFault}
 use Rattle.ltypes.specs.Beginnings.{IsBeginning, HasNoBeginning}
 use Rattle.ltypes.specs.Changes.{Change, IsUntouched}
+use Rattle.ltypes.specs.Drills.{AnswersDrill}
 use Rattle.ltypes.specs.Outputs.{IsPrincipalText}
 use Rattle.ltypes.specs.Runs.{AnswersRun}
 use Rattle.ltypes.specs.Summaries.{summary_text, check_text}
@@ -51,6 +52,7 @@ AnswersCommand (Principal d) source out cause = Answers (IsPrincipalText d) out 
 AnswersCommand (Summary d resume) source out cause = AnswersOn d resume summary_text source out cause
 AnswersCommand (Check d) source out cause = AnswersOn d true check_text source out cause
 AnswersCommand (Run d workers steps resume) source out cause = AnswersRun d workers steps resume source out cause
+AnswersCommand (Drill d seed turns) source out cause = AnswersDrill d seed turns out cause
 
 -- whether a command reads the source
 abbrev pub reads : Command → Bool
@@ -58,6 +60,7 @@ reads (Principal d) = false
 reads (Summary d resume) = resume
 reads (Check d) = true
 reads (Run d workers steps resume) = resume
+reads (Drill d seed turns) = false
 
 -- The words are those of a command, whose answer it is, and which reads the source or leaves it as it was; or they are outside the
 -- grammar, the answer is the place of their first fault, nothing was written, and the source is as it was.

@@ -4,5 +4,6 @@ pub mod Beginnings
 pub mod Summaries
 pub mod Outputs
 pub mod Runs
+pub mod Drills
 pub mod Answers
 pub mod Laws

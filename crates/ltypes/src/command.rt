@@ -9,6 +9,7 @@ ghost use Rattle.ltypes.specs.Outputs.{IsPrincipalText};
 ghost use Rattle.ltypes.specs.Answers.{Reports, Answers, AnswersCommand, AnswersWords, reads};
 ghost use Rattle.ltypes.specs.Laws.{OnePrincipalText, OneStartingSummary, OneSummaryOfBytes};
 
+use crate::drill::drill_command;
 use crate::printed::write_type;
 use crate::reading::{check_command, summary_command};
 use crate::run::{run_alone_command, run_command};
@@ -84,6 +85,7 @@ fn carry_out<R: Threads + Wait + Sync, S: Source, K: Sink, E: Sink, G: Gate>(
                 run_command(rt, alloc, d, workers, steps, resume, source, out, err, gate)
             }
         }
+        Command::Drill { d, seed, length } => drill_command(alloc, d, seed, length, out, err),
     }
 }
 

@@ -3,6 +3,7 @@
 
 mod beginning;
 mod command;
+mod drill;
 mod printed;
 mod reading;
 mod refused;
@@ -10,8 +11,10 @@ mod run;
 mod status;
 mod summary;
 mod totals;
+mod turns;
 
 pub use command::{ltypes, outputs_are_exact, principal_command};
+pub use drill::drill_command;
 use lt_crew::OpenGate;
 use lt_io::{LineSink, StdSink, StdSource};
 pub use reading::{check_command, summary_command};

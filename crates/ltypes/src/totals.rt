@@ -75,7 +75,7 @@ pub struct Totals {
 }
 
 /// Counts the entries, facets and marks of an atlas.
-fn totals_of(atlas: &Atlas) -> Totals
+pub fn totals_of(atlas: &Atlas) -> Totals
     ensures entries { result.entries ≡ length atlas.now.entries }
     ensures facets { result.facets ≡ count one_for_each atlas.now.marks }
     ensures crossed { result.crossed ≡ count one_if_crossed atlas.now.marks }

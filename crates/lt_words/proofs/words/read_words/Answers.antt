@@ -33,3 +33,8 @@ pub read_run-requires : goal.read_run-requires
 read_run-requires c =
     let some : 0 < length c.args.words.now = search rules in
     first_is c.args.words.now _ _ some (rw c.in-Some-Run.field-0-is at c.in-Some-Run.ensures.found)
+
+pub read_drill-requires : goal.read_drill-requires
+read_drill-requires c =
+    let some : 0 < length c.args.words.now = search rules in
+    first_is c.args.words.now _ _ some (rw c.in-Some-Drill.field-0-is at c.in-Some-Drill.ensures.found)

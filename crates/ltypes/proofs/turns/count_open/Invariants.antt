@@ -1,0 +1,6 @@
+use Rattle.std.proofs.Common.{◌≡◌, ◌≤◌}
+use Rattle.ltypes.specs.Drills.{open_before}
+use Rattle.ltypes.proofs.turns.count_open.Given as goal
+
+abbrev pub invariant-loop-position : goal.invariant-loop-position
+invariant-loop-position l = record { value : l.count ≡ open_before l.atlas l.position; within : l.count ≤ l.position }
