@@ -7,7 +7,7 @@ use Rattle.lt_model.specs.Logs.{IsKept}
 use Rattle.lt_model.specs.Walls.{IsAcross}
 use Rattle.lt_core.proofs.Crossings.{across_laws}
 use Rattle.lt_core.proofs.Reaching.{closed_atlas, right_atlas_reached}
-use Rattle.lt_crew.specs.Runs.{AreInOrder, AreBelow, IsSettledBelow}
+use Rattle.lt_crew.specs.Runs.{AreInOrder, AreBelow, AreSettled, IsSettledBelow}
 use Rattle.ltypes.specs.declared.status.Cause.{Cause}
 use Rattle.ltypes.specs.declared.status.Cause.TheVariants.{Finished, Done, Unfinished, Words, Refused, Memory, ReadFault, WriteFault}
 use Rattle.ltypes.specs.Beginnings.{IsBeginning}
@@ -19,8 +19,8 @@ undone_dimension : (n : ℕ) (a : Atlas) → (undo_all n a).dimension ≡ a.dime
 undone_dimension zero a = refl
 undone_dimension (suc n) a = undone_dimension n (undo a)
 
-pub is_run : (d workers steps : ℕ) (s a : Atlas) → s.dimension ≡ d → begin a ≡ s → AreBelow steps a.log → (workers ≡ 1 → AreInOrder a.log) → IsKept (IsAcross a.dimension) a → IsRun d workers steps s a
-is_run d workers steps s a at begins below order k = record { dimension = same; kept = subst (λ (z : ℕ). IsKept (IsAcross z) a) same k; begins = begins; below = below; order = order }
+pub is_run : (d workers steps : ℕ) (s a : Atlas) → s.dimension ≡ d → begin a ≡ s → AreBelow steps a.log → AreSettled a → (workers ≡ 1 → AreInOrder a.log) → IsKept (IsAcross a.dimension) a → IsRun d workers steps s a
+is_run d workers steps s a at begins below settled order k = record { dimension = same; kept = subst (λ (z : ℕ). IsKept (IsAcross z) a) same k; begins = begins; below = below; settled = settled; order = order }
   where
     same : a.dimension ≡ d
     same = sym (undone_dimension (length a.log - 0) a) ∙ ap (λ (z : Atlas). z.dimension) begins ∙ at

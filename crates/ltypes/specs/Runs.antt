@@ -9,7 +9,7 @@ use Rattle.lt_model.specs.Logs.{IsKept}
 use Rattle.lt_model.specs.Reached.{IsReached}
 use Rattle.lt_model.specs.Walls.{IsAcross}
 use Rattle.lt_core.specs.Reached.{IsOneEntry}
-use Rattle.lt_crew.specs.Runs.{AreInOrder, AreBelow, IsSettledBelow}
+use Rattle.lt_crew.specs.Runs.{AreInOrder, AreBelow, AreSettled, IsSettledBelow}
 use Rattle.lt_text.specs.Texts.{atlas_text}
 use Rattle.ltypes.specs.Beginnings.{IsBeginning, HasNoBeginning}
 use Rattle.ltypes.specs.Changes.{Change}
@@ -17,12 +17,14 @@ use Rattle.ltypes.specs.declared.status.Cause.{Cause}
 use Rattle.ltypes.specs.declared.status.Cause.TheVariants.{Finished, Done, Unfinished, Words, Refused, Memory, ReadFault, WriteFault}
 
 -- The atlas a of a run of dimension d from the atlas s: it is right and has a legal log, it begins with s, and each event of its log
--- stands at a position below the step limit. Where one worker runs, event i stands at position i.
+-- stands at a position below the step limit and is what settling its position gives: a mark names the first entry onto which a matrix
+-- carries what lies beyond the facet, by the first such matrix. Where one worker runs, event i stands at position i.
 pub record IsRun (d workers steps : ℕ) (s a : Atlas) : Type 0 where
   pub dimension : a.dimension ≡ d
   pub kept : IsKept (IsAcross d) a
   pub begins : begin a ≡ s
   pub below : AreBelow steps a.log
+  pub settled : AreSettled a
   pub order : workers ≡ 1 → AreInOrder a.log
 
 -- The entries are exactly one member of each unimodular class that facet crossings reach from the principal

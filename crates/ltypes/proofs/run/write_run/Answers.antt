@@ -16,6 +16,6 @@ returns-clause-answer g c =
     let here : IsRunHere d c.args.workers c.args.steps resume source e.atlas = record {
       start = s;
       beginning = c.in-Ok.ensures.begins;
-      run = is_run d c.args.workers c.args.steps s e.atlas (begins_in_dimension d resume source s c.in-Ok.ensures.begins) c.enumerate-ended.ensures.begins c.enumerate-ended.ensures.below (λ one. let several = c.requires.several in absurd (omega (arith, one, several))) c.keeps.ensures.kept;
+      run = is_run d c.args.workers c.args.steps s e.atlas (begins_in_dimension d resume source s c.in-Ok.ensures.begins) c.enumerate-ended.ensures.begins c.enumerate-ended.ensures.below c.enumerate-ended.ensures.events (λ one. let several = c.requires.several in absurd (omega (arith, one, several))) c.keeps.ensures.kept;
     } in
     answers d c.args.workers c.args.steps resume source out e.memory e.atlas c.write_ended.result here c.keeps.ensures.low c.keeps.ensures.kept c.enumerate-ended.ensures.settled c.write_ended.ensures

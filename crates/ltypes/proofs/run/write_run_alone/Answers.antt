@@ -16,6 +16,6 @@ returns-clause-answer g c =
     let here : IsRunHere d 1 c.args.steps resume source e.atlas = record {
       start = s;
       beginning = c.in-Ok.ensures.begins;
-      run = is_run d 1 c.args.steps s e.atlas (begins_in_dimension d resume source s c.in-Ok.ensures.begins) c.run_alone-ended.ensures.run.begins c.run_alone-ended.ensures.below (λ _. c.run_alone-ended.ensures.run.order) c.keeps.ensures.kept;
+      run = is_run d 1 c.args.steps s e.atlas (begins_in_dimension d resume source s c.in-Ok.ensures.begins) c.run_alone-ended.ensures.run.begins c.run_alone-ended.ensures.below c.run_alone-ended.ensures.run.settled (λ _. c.run_alone-ended.ensures.run.order) c.keeps.ensures.kept;
     } in
     answers d 1 c.args.steps resume source out e.memory e.atlas c.write_ended.result here c.keeps.ensures.low c.keeps.ensures.kept c.run_alone-ended.ensures.settled c.write_ended.ensures
