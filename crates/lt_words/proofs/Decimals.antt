@@ -1,8 +1,9 @@
 -- The words that spell numbers.
 use Rattle.std.proofs.Common.{◌≡◌, ◌≢◌, ℕ, ◌<◌, ◌^◌, suc, zero, List, [], ◌∷◌, length, get_or, Ok, Result, sym, ap, ◌∙◌, arith}
 use Rattle.std.specs.Fmt.{decimal}
+use Rattle.lt_words.specs.Grammar.{IsDimension}
 use Rattle.std.specs.Str.Parse.{AllDigits, ParsesUnsigned, digits_value}
-use Rattle.std.proofs.lemmas.Fmt.{decimal_digit, first_decimal, decimal-digits_value}
+use Rattle.std.proofs.lemmas.Fmt.{decimal_digit, decimal_injective, first_decimal, decimal-digits_value}
 use Rattle.std.proofs.lemmas.Result.{OkIff-at_ok}
 use Rattle.std.proofs.lemmas.Str.Parse.{IsNumeralModel, numerals_by_value, tells_digits, parse_plain}
 
@@ -27,3 +28,7 @@ pub spelt_bare : {E : Type 0} (bytes : List ℕ) (n : ℕ) (r : Result ℕ E) �
 spelt_bare bytes n r bare small parses is =
     let (digits, e) = OkIff-at_ok r _ _ n (parse_plain own 64 bytes r parses bare.0) is in
     sym (decimal-digits_value own bytes digits.0 digits.1 bare.1 (omega (arith, digits.2))) ∙ ap decimal (sym e)
+
+-- dimensions have different words
+pub same_dimension : (d e : ℕ) → IsDimension d → IsDimension e → decimal d ≡ decimal e → d ≡ e
+same_dimension d e r q is = decimal_injective d e (omega (arith, r.1)) (omega (arith, q.1)) is

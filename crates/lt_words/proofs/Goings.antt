@@ -9,9 +9,9 @@ use Rattle.lt_words.specs.declared.options.Part.TheVariants.{Dimension, Resume, 
 use Rattle.lt_words.specs.declared.options.Options.{Options}
 use Rattle.lt_words.specs.Grammar.{IsInSetting, Item, dimension, setting, resuming, ending, AreSpellings}
 use Rattle.lt_words.specs.Parts.{part_word, IsPart}
-use Rattle.lt_words.specs.Rests.{named, Allows, Complete, IsRestBy, GoesTo, StopsAt, TakesNumber}
+use Rattle.lt_words.specs.Rests.{named, Allows, IsInLimit, LeavesSteps, Complete, IsRestBy, GoesTo, StopsAt, TakesNumber}
 use Rattle.lt_words.proofs.Spellings.{Leads, Follows, same_number, behind, in_front, no_part}
-use Rattle.lt_words.proofs.Steps.{takes_dimension, one_dimension_alone, takes_resuming, one_resuming_alone, takes_ending, nothing_else, one_number_alone}
+use Rattle.lt_words.proofs.Steps.{takes_dimension, one_dimension_alone, takes_resuming, one_resuming_alone, takes_ending, nothing_else, one_number_alone, number_in_limit, dimension_leaves_steps}
 
 -- ---- where no number is due
 
@@ -38,7 +38,7 @@ itself p items ws = (λ f. f, λ f. f)
 pub goes_dimension : (o : Options) (p : Part) (d : ℕ) → p ≡ Dimension d → o.due ≡ None → IsPart p → Allows o p → GoesTo o (part_word p) (record o { d = Some d })
 goes_dimension o p d is none r a =
     subst (λ q. GoesTo o (part_word q) (record o { d = Some d })) (sym is)
-    (goes_item o (Dimension d) (dimension d) none (subst IsPart is r) (itself (Dimension d)) (record o { d = Some d }) none (takes_dimension o d (subst (Allows o) is a)))
+    (goes_item o (Dimension d) (dimension d) none (subst IsPart is r) (itself (Dimension d)) (record o { d = Some d }) none (takes_dimension o d (subst (Allows o) is a).0))
 
 pub goes_resume : (o : Options) (p : Part) → p ≡ Resume → o.due ≡ None → Allows o p → GoesTo o (part_word p) (record o { resume = true })
 goes_resume o p is none a =
@@ -62,8 +62,8 @@ same_complete o s (Summary d r) items = (λ f. f, λ f. f)
 same_complete o s (Check d) items = (λ f. f, λ f. f)
 same_complete o s (Drill d seed l) items = (λ f. f, λ f. f)
 same_complete o s (Run d w t r) items = (
-  λ f. record { one_dimension = f.one_dimension; chosen_workers = f.chosen_workers; chosen_steps = f.chosen_steps; resumed = f.resumed; last = f.last },
-  λ f. record { one_dimension = f.one_dimension; chosen_workers = f.chosen_workers; chosen_steps = f.chosen_steps; resumed = f.resumed; last = f.last },
+  λ f. record { one_dimension = f.one_dimension; chosen_workers = f.chosen_workers; chosen_steps = f.chosen_steps; few = f.few; resumed = f.resumed; last = f.last },
+  λ f. record { one_dimension = f.one_dimension; chosen_workers = f.chosen_workers; chosen_steps = f.chosen_steps; few = f.few; resumed = f.resumed; last = f.last },
 )
 
 pub goes_named : (o : Options) (p : Part) (s : Setting) → p ≡ Named s → o.due ≡ None → GoesTo o (part_word p) (record o { due = Some s })
@@ -88,10 +88,15 @@ is_true true h = refl
 is_true false h = absurd (h refl)
 
 -- of a setting that may not come
-never_setting : (o : Options) (s : Setting) → ((o.ended ≡ false) × (named o s ≡ None) → ⊥) → (n : ℕ) (c : Command) (items : List Item) → Complete o c (setting s n ∷ items) → ⊥
-never_setting o s not n c items f =
-    let shut : o.ended ≡ false → ⊥ = λ on. let k = is_some (named o s) (λ none. not (on, none)) in one_number_alone o s n k.0 k.1 c items f in
+never_setting : (o : Options) (s : Setting) (n : ℕ) → ((o.ended ≡ false) × (named o s ≡ None) × IsInLimit o s n → ⊥) → (c : Command) (items : List Item) → Complete o c (setting s n ∷ items) → ⊥
+never_setting o s n not c items f =
+    let shut : o.ended ≡ false → ⊥ = λ on. let k = is_some (named o s) (λ none. not (on, none, number_in_limit o s n c items f)) in one_number_alone o s n k.0 k.1 c items f in
     nothing_else o (setting s n) (is_true o.ended shut) (λ d e. cc) c items f
+
+-- and of a dimension
+never_dimension : (o : Options) (d : ℕ) → ((o.d ≡ None) × LeavesSteps o d → ⊥) → (c : Command) (items : List Item) → Complete o c (dimension d ∷ items) → ⊥
+never_dimension o d not c items f =
+    let k = is_some o.d (λ none. not (none, dimension_leaves_steps o d none c items f)) in one_dimension_alone o d k.0 k.1 c items f
 
 never_resuming : (o : Options) → ((o.ended ≡ false) × (o.resume ≡ false) → ⊥) → (c : Command) (items : List Item) → Complete o c (resuming ∷ items) → ⊥
 never_resuming o not c items f =
@@ -100,14 +105,14 @@ never_resuming o not c items f =
 
 -- a part that may not come
 pub stops_at_part : (o : Options) (p : Part) → o.due ≡ None → IsPart p → (Allows o p → ⊥) → StopsAt o (part_word p)
-stops_at_part o (Dimension d) none r not = let k = is_some o.d not in stops_item o (Dimension d) (dimension d) none r (itself (Dimension d)) (one_dimension_alone o d k.0 k.1)
+stops_at_part o (Dimension d) none r not = stops_item o (Dimension d) (dimension d) none r (itself (Dimension d)) (never_dimension o d not)
 stops_at_part o Resume none r not = stops_item o Resume resuming none r (itself Resume) (never_resuming o not)
 stops_at_part o Ending none r not = stops_item o Ending ending none r (itself Ending) (nothing_else o ending (is_true o.ended not) (λ d e. cc))
-stops_at_part o (Joined s n) none r not = stops_item o (Joined s n) (setting s n) none r (itself (Joined s n)) (never_setting o s not n)
+stops_at_part o (Joined s n) none r not = stops_item o (Joined s n) (setting s n) none r (itself (Joined s n)) (never_setting o s n not)
 stops_at_part o (Named s) none r not = λ c ws rest.
     let (items, m, f) = subst (λ u. IsRestBy u o c (part_word (Named s) ∷ ws)) none rest in
     let (n, later, more, w, in_setting, e, t) = behind (Named s) items ws tt m in
-    never_setting o s not n c more (subst (Complete o c) e f)
+    never_setting o s n (λ h. not (h.0, h.1)) c more (subst (Complete o c) e f)
 
 -- a word that is no part
 pub stops_at_none : (o : Options) (v : List ℕ) → o.due ≡ None → ((p : Part) → IsPart p → v ≡ part_word p → ⊥) → StopsAt o v
@@ -125,6 +130,6 @@ goes_number o next s n v due none r is takes c ws = (
       subst (λ u. IsRestBy u o c (v ∷ ws)) (sym due) (n, ws, items, ap (λ w. w ∷ ws) is, r, t, (takes c items).1 f),
 )
 
-pub stops_at_number : (o : Options) (s : Setting) (v : List ℕ) → o.due ≡ Some s → ((n : ℕ) → IsInSetting s n → v ≡ decimal n → ⊥) → StopsAt o v
+pub stops_at_number : (o : Options) (s : Setting) (v : List ℕ) → o.due ≡ Some s → ((n : ℕ) → IsInSetting s n → IsInLimit o s n → v ≡ decimal n → ⊥) → StopsAt o v
 stops_at_number o s v due other c ws rest =
-    let (m, later, items, w, in_setting, t, f) = subst (λ u. IsRestBy u o c (v ∷ ws)) due rest in other m in_setting (cc)
+    let (m, later, items, w, in_setting, t, f) = subst (λ u. IsRestBy u o c (v ∷ ws)) due rest in other m in_setting (number_in_limit o s m c items f) (cc)

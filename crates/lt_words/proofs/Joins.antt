@@ -42,7 +42,8 @@ dimension_has_none (suc (suc zero)) r = refl
 dimension_has_none (suc (suc (suc zero))) r = refl
 dimension_has_none (suc (suc (suc (suc zero)))) r = refl
 dimension_has_none (suc (suc (suc (suc (suc zero))))) r = refl
-dimension_has_none (suc (suc (suc (suc (suc (suc d)))))) r = absurd (omega (arith, r.1))
+dimension_has_none (suc (suc (suc (suc (suc (suc zero)))))) r = refl
+dimension_has_none (suc (suc (suc (suc (suc (suc (suc d))))))) r = absurd (omega (arith, r.1))
 
 setting_has_none : (s : Setting) → has_equals (setting_word s) ≡ false
 unfolding has_equals

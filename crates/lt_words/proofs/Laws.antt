@@ -1,5 +1,5 @@
 -- Words have a fault at one place at most, and are one command at most.
-use Rattle.std.proofs.Common.{◌≡◌, ℕ, zero, suc, ◌+◌, ◌<◌, ◌≤◌, Bool, true, false, List, [], ◌∷◌, ◌++◌, take, drop, codes, refl, inl, inr, sym, ap, subst, ◌∙◌, arith, append_assoc}
+use Rattle.std.proofs.Common.{◌≡◌, ℕ, ◌+◌, ◌<◌, ◌≤◌, Bool, true, false, List, [], ◌∷◌, ◌++◌, take, drop, codes, refl, inl, inr, sym, ap, subst, ◌∙◌, arith, append_assoc}
 use Rattle.std.proofs.lemmas.List.{take-append-drop, take-take}
 use Rattle.std.proofs.lemmas.Fmt.{decimal_injective}
 use Rattle.std.specs.Fmt.{decimal}
@@ -7,10 +7,12 @@ use Rattle.lt_words.specs.declared.words.Command.{Command}
 use Rattle.lt_words.specs.declared.words.Command.TheVariants.{Principal, Summary, Check, Run, Drill}
 use Rattle.lt_words.specs.declared.options.Setting.TheVariants.{Workers, Steps}
 use Rattle.lt_words.specs.declared.options.Part.TheVariants.{Dimension, Resume, Ending, Named, Joined}
-use Rattle.lt_words.specs.Grammar.{IsDimension, InRange, Item, dimension, setting, resuming, ending, setting_word, AreSpellings, numbers, times, IsChosen, MakeRun, Spells, Begins, FaultAt, most_steps}
+use Rattle.lt_words.specs.Grammar.{InRange, Item, dimension, setting, resuming, ending, setting_word, AreSpellings, numbers, times, IsChosen, MakeRun, Spells, Begins, FaultAt}
 use Rattle.lt_words.specs.Parts.{part_word}
 use Rattle.lt_model.specs.Limits.{step_limit}
+use Rattle.lt_words.proofs.Decimals.{same_dimension}
 use Rattle.lt_words.proofs.Ends.{no_items}
+use Rattle.lt_words.proofs.Ranges.{few_turns}
 use Rattle.lt_words.proofs.Spellings.{same_number, behind}
 use Rattle.lt_words.proofs.Tails.{kind_of, first_word, same_kind}
 
@@ -29,9 +31,6 @@ pub one_place : (ws : List (List ℕ)) (p q : ℕ) → FaultAt ws p → FaultAt 
 one_place ws p q f h = omega (arith, no_later_fault ws p q f h, no_later_fault ws q p h f)
 
 -- ---- one command
-
-same_dimension : (d e : ℕ) → IsDimension d → IsDimension e → decimal d ≡ decimal e → d ≡ e
-same_dimension d e r q is = decimal_injective d e (omega (arith, r.1)) (omega (arith, q.1)) is
 
 -- words are one list of items at most
 one_list : (items others : List Item) (ws : List (List ℕ)) → AreSpellings items ws → AreSpellings others ws → items ≡ others
@@ -75,7 +74,7 @@ one_run : (d e w v s t : ℕ) (r q : Bool) (items : List Item) → MakeRun d w s
 one_run d e w v s t r q items m n =
     let dimensions : d ≡ e = let f = m.one_dimension in let g = n.one_dimension in cc in
     let workers = one_chosen 1 (numbers Workers items) w v m.chosen_workers n.chosen_workers in
-    let steps = one_chosen most_steps (numbers Steps items) s t m.chosen_steps n.chosen_steps in
+    let steps = one_chosen (step_limit e) (numbers Steps items) s t (subst (λ x. IsChosen (step_limit x) (numbers Steps items) s) dimensions m.chosen_steps) n.chosen_steps in
     let flags = one_flag r q (sym m.resumed ∙ n.resumed) in
     cc
 
@@ -96,7 +95,7 @@ same_commands (Run d w s r) (Run e v t q) ws k range inside f g = same_runs d e 
 same_commands (Drill d s l) (Drill e t m) ws k (r, below, few) (q, under, less) f g =
     let dimensions : d ≡ e = same_dimension d e r q (cc) in
     let seeds : s ≡ t = decimal_injective s t below under (cc) in
-    let turns : l ≡ m = decimal_injective l m (omega (arith, few)) (omega (arith, less)) (cc) in
+    let turns : l ≡ m = decimal_injective l m (omega (arith, few, few_turns d)) (omega (arith, less, few_turns e)) (cc) in
     cc
 same_commands _ _ ws k r q f g = absurd (cc)
 
@@ -106,13 +105,3 @@ one_command c c' ws r q f g =
     let (rest, e) = first_word c ws f in
     let (later, h) = first_word c' ws g in
     same_commands c c' ws (same_kind (kind_of c) (kind_of c') (cc)) r q f g
-
--- the limit on steps is that of dimension 5 in each dimension of a command
-pub one_limit : (d : ℕ) → IsDimension d → step_limit d ≡ most_steps
-one_limit zero r = absurd (omega (arith, r.0))
-one_limit (suc zero) r = absurd (omega (arith, r.0))
-one_limit (suc (suc zero)) r = refl
-one_limit (suc (suc (suc zero))) r = refl
-one_limit (suc (suc (suc (suc zero)))) r = refl
-one_limit (suc (suc (suc (suc (suc zero))))) r = refl
-one_limit (suc (suc (suc (suc (suc (suc d)))))) r = absurd (omega (arith, r.1))

@@ -4,6 +4,7 @@ pub mod Fronts
 pub mod Goings
 pub mod Joins
 pub mod Laws
+pub mod Ranges
 pub mod Spellings
 pub mod Steps
 pub mod Tails

@@ -69,7 +69,8 @@ dimension_decoded (suc (suc zero)) r = refl
 dimension_decoded (suc (suc (suc zero))) r = refl
 dimension_decoded (suc (suc (suc (suc zero)))) r = refl
 dimension_decoded (suc (suc (suc (suc (suc zero))))) r = refl
-dimension_decoded (suc (suc (suc (suc (suc (suc d)))))) r = absurd (omega (arith, r.1))
+dimension_decoded (suc (suc (suc (suc (suc (suc zero)))))) r = refl
+dimension_decoded (suc (suc (suc (suc (suc (suc (suc d))))))) r = absurd (omega (arith, r.1))
 
 decoded_part : (p : Part) → IsPart p → decoded (part_word p) ≡ bare p
 unfolding decoded bare

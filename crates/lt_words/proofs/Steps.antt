@@ -1,12 +1,13 @@
 -- What one item more makes of what was read behind `run`.
-use Rattle.std.proofs.Common.{◌≡◌, ℕ, ◌≤◌, Bool, true, false, List, [], ◌∷◌, ◌++◌, ◌⊎◌, ◌↔◌, inl, inr, Option, Some, None, refl, sym, ap, ◌∙◌, subst, arith}
+use Rattle.std.proofs.Common.{◌≡◌, ℕ, ◌≤◌, Bool, true, false, List, [], ◌∷◌, ◌++◌, ◌⊎◌, ◌↔◌, inl, inr, Option, Some, None, IfSome, refl, sym, ap, ◌∙◌, subst, arith}
+use Rattle.lt_model.specs.Limits.{step_limit}
 use Rattle.lt_words.specs.declared.words.Command.{Command}
 use Rattle.lt_words.specs.declared.words.Command.TheVariants.{Principal, Summary, Check, Run, Drill}
 use Rattle.lt_words.specs.declared.options.Setting.{Setting}
 use Rattle.lt_words.specs.declared.options.Setting.TheVariants.{Workers, Steps}
 use Rattle.lt_words.specs.declared.options.Options.{Options}
-use Rattle.lt_words.specs.Grammar.{Item, dimension, setting, resuming, ending, dimensions, numbers, times, IsChosen, AreEnded, most_steps}
-use Rattle.lt_words.specs.Rests.{named, listed, AreLast, Complete}
+use Rattle.lt_words.specs.Grammar.{Item, dimension, setting, resuming, ending, dimensions, numbers, times, IsChosen, AreEnded}
+use Rattle.lt_words.specs.Rests.{named, listed, AreLast, Complete, IsInLimit, LeavesSteps}
 
 -- ---- `--` among the items
 
@@ -66,6 +67,7 @@ takes_dimension o x none (Run d w s r) items = (
     one_dimension = ap (λ m. listed m ++ x ∷ dimensions items) (sym none) ∙ f.one_dimension;
     chosen_workers = f.chosen_workers;
     chosen_steps = f.chosen_steps;
+    few = f.few;
     resumed = f.resumed;
     last = last_dimension o.ended x d items f.last;
   },
@@ -73,6 +75,7 @@ takes_dimension o x none (Run d w s r) items = (
     one_dimension = ap (λ m. listed m ++ x ∷ dimensions items) none ∙ g.one_dimension;
     chosen_workers = g.chosen_workers;
     chosen_steps = g.chosen_steps;
+    few = g.few;
     resumed = g.resumed;
     last = dimension_last o.ended x d items g.one_dimension g.last;
   },
@@ -108,6 +111,7 @@ takes_resuming o none on (Run d w s r) items =
         one_dimension = f.one_dimension;
         chosen_workers = f.chosen_workers;
         chosen_steps = f.chosen_steps;
+        few = f.few;
         resumed = omega (arith, f.resumed, zero);
         last = last_less o resuming items on f.last;
       },
@@ -115,6 +119,7 @@ takes_resuming o none on (Run d w s r) items =
         one_dimension = g.one_dimension;
         chosen_workers = g.chosen_workers;
         chosen_steps = g.chosen_steps;
+        few = g.few;
         resumed = omega (arith, g.resumed, zero);
         last = last_more o resuming items on (λ e. cc) g.last;
       },
@@ -138,6 +143,7 @@ takes_ending o on (Run d w s r) items = (
     one_dimension = f.one_dimension;
     chosen_workers = f.chosen_workers;
     chosen_steps = f.chosen_steps;
+    few = f.few;
     resumed = f.resumed;
     last = ended_here items (subst (λ b. AreLast b (ending ∷ items)) on f.last);
   },
@@ -145,6 +151,7 @@ takes_ending o on (Run d w s r) items = (
     one_dimension = g.one_dimension;
     chosen_workers = g.chosen_workers;
     chosen_steps = g.chosen_steps;
+    few = g.few;
     resumed = g.resumed;
     last = subst (λ b. AreLast b (ending ∷ items)) (sym on) (here_ended items g.last);
   },
@@ -182,6 +189,7 @@ takes_number o Workers n none on (Run d w s r) items =
         one_dimension = f.one_dimension;
         chosen_workers = same.0 f.chosen_workers;
         chosen_steps = f.chosen_steps;
+        few = f.few;
         resumed = f.resumed;
         last = last_less o (setting Workers n) items on f.last;
       },
@@ -189,16 +197,18 @@ takes_number o Workers n none on (Run d w s r) items =
         one_dimension = g.one_dimension;
         chosen_workers = same.1 g.chosen_workers;
         chosen_steps = g.chosen_steps;
+        few = g.few;
         resumed = g.resumed;
         last = last_more o (setting Workers n) items on (λ e. cc) g.last;
       },
     )
 takes_number o Steps n none on (Run d w s r) items =
-    let same = first_chosen o.steps most_steps n s (numbers Steps items) none in (
+    let same = first_chosen o.steps (step_limit d) n s (numbers Steps items) none in (
       λ f. record {
         one_dimension = f.one_dimension;
         chosen_workers = f.chosen_workers;
         chosen_steps = same.0 f.chosen_steps;
+        few = f.few;
         resumed = f.resumed;
         last = last_less o (setting Steps n) items on f.last;
       },
@@ -206,6 +216,7 @@ takes_number o Steps n none on (Run d w s r) items =
         one_dimension = g.one_dimension;
         chosen_workers = g.chosen_workers;
         chosen_steps = same.1 g.chosen_steps;
+        few = g.few;
         resumed = g.resumed;
         last = last_more o (setting Steps n) items on (λ e. cc) g.last;
       },
@@ -217,8 +228,49 @@ two_chosen m default k n x more some (inr e) = let f : k ∷ n ∷ more ≡ [] =
 
 pub one_number_alone : (o : Options) (t : Setting) (n k : ℕ) → named o t ≡ Some k → (c : Command) (items : List Item) → Complete o c (setting t n ∷ items) → ⊥
 one_number_alone o Workers n k some (Run d w s r) items f = two_chosen o.workers 1 k n w (numbers Workers items) some f.chosen_workers
-one_number_alone o Steps n k some (Run d w s r) items f = two_chosen o.steps most_steps k n s (numbers Steps items) some f.chosen_steps
+one_number_alone o Steps n k some (Run d w s r) items f = two_chosen o.steps (step_limit d) k n s (numbers Steps items) some f.chosen_steps
 one_number_alone o t n k some (Principal d) items f = f
 one_number_alone o t n k some (Summary d r) items f = f
 one_number_alone o t n k some (Check d) items f = f
 one_number_alone o t n k some (Drill d s l) items f = f
+
+-- ---- the limit on steps
+
+-- the number that stands first is the one that was named
+named_steps : (m : Option ℕ) (default n x : ℕ) (more : List ℕ) → IsChosen default (listed m ++ n ∷ more) x → n ≡ x
+named_steps None default n x more (inl e) = cc
+named_steps None default n x more (inr e) = let f = e.0 in absurd (cc)
+named_steps (Some k) default n x more (inl e) = absurd (cc)
+named_steps (Some k) default n x more (inr e) = let f = e.0 in absurd (cc)
+
+-- and the dimension that was named is that of the run
+named_dimension : (m : Option ℕ) (d n : ℕ) (more : List ℕ) → listed m ++ more ≡ d ∷ [] → n ≤ step_limit d → IfSome m (λ k. n ≤ step_limit k)
+named_dimension None d n more e few = tt
+named_dimension (Some k) d n more e few = let same : k ≡ d = cc in subst (λ z. n ≤ step_limit z) (sym same) few
+
+-- a number that goes on is within the limit of the dimension
+pub number_in_limit : (o : Options) (t : Setting) (n : ℕ) (c : Command) (items : List Item) → Complete o c (setting t n ∷ items) → IsInLimit o t n
+number_in_limit o Workers n c items f = tt
+number_in_limit o Steps n (Run d w s r) items f =
+    let same = named_steps o.steps (step_limit d) n s (numbers Steps items) f.chosen_steps in
+    named_dimension o.d d n (dimensions items) f.one_dimension (subst (λ z. z ≤ step_limit d) (sym same) f.few)
+number_in_limit o Steps n (Principal d) items f = absurd f
+number_in_limit o Steps n (Summary d r) items f = absurd f
+number_in_limit o Steps n (Check d) items f = absurd f
+number_in_limit o Steps n (Drill d s l) items f = absurd f
+
+leaves : (m : Option ℕ) (default d x : ℕ) (more : List ℕ) → IsChosen default (listed m ++ more) x → x ≤ step_limit d → IfSome m (λ n. n ≤ step_limit d)
+leaves None default d x more h few = tt
+leaves (Some n) default d x more (inl e) few = let same : n ≡ x = cc in subst (λ z. z ≤ step_limit d) (sym same) few
+leaves (Some n) default d x more (inr e) few = let f = e.0 in absurd (cc)
+
+-- a dimension that goes on allows the steps that were named
+pub dimension_leaves_steps : (o : Options) (x : ℕ) → o.d ≡ None → (c : Command) (items : List Item) → Complete o c (dimension x ∷ items) → LeavesSteps o x
+dimension_leaves_steps o x none (Run d w s r) items f =
+    let first : x ∷ dimensions items ≡ d ∷ [] = ap (λ m. listed m ++ x ∷ dimensions items) (sym none) ∙ f.one_dimension in
+    let same : x ≡ d = cc in
+    leaves o.steps (step_limit d) x s (numbers Steps items) f.chosen_steps (subst (λ z. s ≤ step_limit z) (sym same) f.few)
+dimension_leaves_steps o x none (Principal d) items f = absurd f
+dimension_leaves_steps o x none (Summary d r) items f = absurd f
+dimension_leaves_steps o x none (Check d) items f = absurd f
+dimension_leaves_steps o x none (Drill d s l) items f = absurd f

@@ -14,6 +14,7 @@ use Rattle.lt_words.specs.declared.words.Kind.{Kind}
 use Rattle.lt_words.specs.declared.words.Kind.TheVariants as kind
 use Rattle.lt_words.specs.Grammar.{texts, place_of, most_turns, IsDimension, InRange, Spells, IsAccepted, FaultAt}
 use Rattle.lt_words.specs.Parts.{kind_word, HasFront, HasWord}
+use Rattle.lt_words.proofs.Decimals.{same_dimension}
 use Rattle.lt_words.proofs.Fronts.{begins, front_alone, longer, fault_at_end, fault_at_word}
 
 -- ---- kinds
@@ -51,16 +52,16 @@ same_kind k l e = sym (kind_again k) ∙ ap (λ w. kind_at (get_or w 0 0)) e ∙
 -- ---- shapes
 
 -- what stands behind the dimension
-abbrev pub IsEnd : Kind → List (List ℕ) → Type 0
-IsEnd kind.Principal ts = ts ≡ []
-IsEnd kind.Summary ts = (ts ≡ []) ⊎ (ts ≡ codes "--resume" ∷ [])
-IsEnd kind.Check ts = ts ≡ []
-IsEnd kind.Run ts = ⊥
-IsEnd kind.Drill ts = (s : ℕ) × (l : ℕ) × (s < 2 ^ 64) × (l ≤ most_turns) × (ts ≡ decimal s ∷ decimal l ∷ [])
+abbrev pub IsEnd : ℕ → Kind → List (List ℕ) → Type 0
+IsEnd d kind.Principal ts = ts ≡ []
+IsEnd d kind.Summary ts = (ts ≡ []) ⊎ (ts ≡ codes "--resume" ∷ [])
+IsEnd d kind.Check ts = ts ≡ []
+IsEnd d kind.Run ts = ⊥
+IsEnd d kind.Drill ts = (s : ℕ) × (l : ℕ) × (s < 2 ^ 64) × (l ≤ most_turns d) × (ts ≡ decimal s ∷ decimal l ∷ [])
 
 -- what stands behind the first word
 abbrev IsTail : Kind → List (List ℕ) → Type 0
-IsTail k ts = (d : ℕ) × (end : List (List ℕ)) × IsDimension d × (ts ≡ decimal d ∷ end) × IsEnd k end
+IsTail k ts = (d : ℕ) × (end : List (List ℕ)) × IsDimension d × (ts ≡ decimal d ∷ end) × IsEnd d k end
 
 tail_of : (c : Command) (ts : List (List ℕ)) → InRange c → Spells c (kind_word (kind_of c) ∷ ts) → (kind_of c ≡ kind.Run → ⊥) → IsTail (kind_of c) ts
 tail_of (Principal d) ts r e other = (d, [], r, cc, refl)
@@ -98,7 +99,7 @@ tail_fault ws k front more other has goes outside here =
           fault_at_end ws whole has len before (λ a. outside len (tail k front other a))
     ]
 
-some_end : (k : Kind) → (k ≡ kind.Run → ⊥) → (end : List (List ℕ)) × IsEnd k end
+some_end : (k : Kind) → (k ≡ kind.Run → ⊥) → (end : List (List ℕ)) × IsEnd 2 k end
 some_end kind.Principal other = ([], refl)
 some_end kind.Summary other = ([], inl refl)
 some_end kind.Check other = ([], refl)
@@ -113,12 +114,19 @@ dimension_fault ws k other has none =
     (λ len t. let e = t.3 in absurd (cc))
     (λ v rest w t. let e = t.3 in none t.0 t.2 (w.0, w.1 ∙ cc))
 
+-- what stands behind a dimension is the end for that dimension
+end_at : (k : Kind) (d : ℕ) (end : List (List ℕ)) → IsDimension d → IsTail k (decimal d ∷ end) → IsEnd d k end
+end_at k d end r (n, more, q, e, is) =
+    let same : n ≡ d = same_dimension n d q r (cc) in
+    let behind : more ≡ end = cc in
+    subst (λ ts. IsEnd d k ts) behind (subst (λ m. IsEnd m k more) same is)
+
 -- the fault stands behind the dimension
-pub later_fault : (ws : List (List ℕ)) (k : Kind) (d : ℕ) (front more : List (List ℕ)) → (k ≡ kind.Run → ⊥) → IsDimension d → HasFront ws (kind_word k ∷ decimal d ∷ front) → IsEnd k (front ++ more) → (length ws ≡ length (kind_word k ∷ decimal d ∷ front) → IsEnd k front → ⊥) → ((v : List ℕ) (rest : List (List ℕ)) → HasWord ws (length (kind_word k ∷ decimal d ∷ front)) v → IsEnd k (front ++ v ∷ rest) → ⊥) → FaultAt ws (length (kind_word k ∷ decimal d ∷ front))
+pub later_fault : (ws : List (List ℕ)) (k : Kind) (d : ℕ) (front more : List (List ℕ)) → (k ≡ kind.Run → ⊥) → IsDimension d → HasFront ws (kind_word k ∷ decimal d ∷ front) → IsEnd d k (front ++ more) → (length ws ≡ length (kind_word k ∷ decimal d ∷ front) → IsEnd d k front → ⊥) → ((v : List ℕ) (rest : List (List ℕ)) → HasWord ws (length (kind_word k ∷ decimal d ∷ front)) v → IsEnd d k (front ++ v ∷ rest) → ⊥) → FaultAt ws (length (kind_word k ∷ decimal d ∷ front))
 later_fault ws k d front more other r has goes outside here =
     tail_fault ws k (decimal d ∷ front) more other has (d, front ++ more, r, refl, goes)
-    (λ len t. let e = t.3 in outside len (subst (IsEnd k) (let same : t.1 ≡ front = cc in same) t.4))
-    (λ v rest w t. let e = t.3 in here v rest w (subst (IsEnd k) (let same : t.1 ≡ front ++ v ∷ rest = cc in same) t.4))
+    (λ len t. outside len (end_at k d front r t))
+    (λ v rest w t. here v rest w (end_at k d (front ++ v ∷ rest) r t))
 
 -- the words begin with the dimension, too
 pub with_dimension : (ws : List (List ℕ)) (k : Kind) (d : ℕ) → HasFront ws (kind_word k ∷ []) → HasWord ws 1 (decimal d) → HasFront ws (kind_word k ∷ decimal d ∷ [])
@@ -132,7 +140,7 @@ pub with_turns : (ws : List (List ℕ)) (d s l : ℕ) → HasFront ws (codes "dr
 with_turns ws d s l has w = longer ws (codes "drill" ∷ decimal d ∷ decimal s ∷ []) (decimal l) has w.0 w.1
 
 -- a word more than `principal D` or `check D`
-pub third_word : (ws : List (List ℕ)) (k : Kind) (d : ℕ) → (k ≡ kind.Run → ⊥) → IsDimension d → HasFront ws (kind_word k ∷ decimal d ∷ []) → IsEnd k [] → ((v : List ℕ) (rest : List (List ℕ)) → HasWord ws 2 v → IsEnd k (v ∷ rest) → ⊥) → 2 < length ws → FaultAt ws 2
+pub third_word : (ws : List (List ℕ)) (k : Kind) (d : ℕ) → (k ≡ kind.Run → ⊥) → IsDimension d → HasFront ws (kind_word k ∷ decimal d ∷ []) → IsEnd d k [] → ((v : List ℕ) (rest : List (List ℕ)) → HasWord ws 2 v → IsEnd d k (v ∷ rest) → ⊥) → 2 < length ws → FaultAt ws 2
 third_word ws k d other r has end here more = later_fault ws k d [] [] other r has end (λ len t. omega (arith, len, more)) here
 
 -- a word more than `summary D --resume`
@@ -147,14 +155,14 @@ seed_fault ws d r has none =
     (λ v rest w t. let e = t.4 in none t.0 t.2 (w.0, w.1 ∙ cc))
 
 -- and no number of turns behind the seed
-pub turns_fault : (ws : List (List ℕ)) (d s : ℕ) → IsDimension d → s < 2 ^ 64 → HasFront ws (codes "drill" ∷ decimal d ∷ decimal s ∷ []) → ((l : ℕ) → l ≤ most_turns → HasWord ws 3 (decimal l) → ⊥) → FaultAt ws 3
+pub turns_fault : (ws : List (List ℕ)) (d s : ℕ) → IsDimension d → s < 2 ^ 64 → HasFront ws (codes "drill" ∷ decimal d ∷ decimal s ∷ []) → ((l : ℕ) → l ≤ most_turns d → HasWord ws 3 (decimal l) → ⊥) → FaultAt ws 3
 turns_fault ws d s r below has none =
     later_fault ws kind.Drill d (decimal s ∷ []) (decimal 0 ∷ []) (λ e. cc) r has (s, 0, below, omega arith, refl)
     (λ len t. let e = t.4 in absurd (cc))
     (λ v rest w t. let e = t.4 in none t.1 t.3 (w.0, w.1 ∙ cc))
 
 -- a word more than `drill D SEED LENGTH`
-pub fifth_word : (ws : List (List ℕ)) (d s l : ℕ) → IsDimension d → s < 2 ^ 64 → l ≤ most_turns → HasFront ws (codes "drill" ∷ decimal d ∷ decimal s ∷ decimal l ∷ []) → 4 < length ws → FaultAt ws 4
+pub fifth_word : (ws : List (List ℕ)) (d s l : ℕ) → IsDimension d → s < 2 ^ 64 → l ≤ most_turns d → HasFront ws (codes "drill" ∷ decimal d ∷ decimal s ∷ decimal l ∷ []) → 4 < length ws → FaultAt ws 4
 fifth_word ws d s l r below few has more =
     later_fault ws kind.Drill d (decimal s ∷ decimal l ∷ []) [] (λ e. cc) r has (s, l, below, few, refl)
     (λ len t. omega (arith, len, more))

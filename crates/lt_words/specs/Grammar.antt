@@ -1,5 +1,5 @@
 -- The words of the command line.
-use Rattle.std.specs.Prelude.{◌≡◌, ℕ, suc, ◌+◌, ◌^◌, ◌<◌, ◌≤◌, Bool, true, false, cond, List, [], ◌∷◌, ◌++◌, ◌⊎◌, length, take, map, codes}
+use Rattle.std.specs.Prelude.{◌≡◌, ℕ, suc, ◌+◌, ◌^◌, ◌<◌, ◌≤◌, Bool, true, false, cond, List, [], ◌∷◌, ◌++◌, ◌⊎◌, nat_le, length, take, map, codes}
 use Rattle.std.specs.Fmt.{decimal}
 use Rattle.lt_model.specs.Limits.{step_limit}
 use Rattle.lt_words.specs.declared.words.Command.{Command}
@@ -18,21 +18,21 @@ texts ws = map (λ w. w.now) ws
 
 -- a dimension that a command takes
 abbrev pub IsDimension : ℕ → Type 0
-IsDimension d = (2 ≤ d) × (d ≤ 5)
+IsDimension d = (2 ≤ d) × (d ≤ 6)
 
 -- the greatest number of workers of a run
 abbrev pub most_workers : ℕ
 most_workers = 64
 
--- the greatest number of steps of a run, and the number where none is named
+-- the greatest number of steps of a run in any dimension, which is that of the lowest
 abbrev pub most_steps : ℕ
-most_steps = step_limit 5
+most_steps = step_limit 2
 
--- the greatest number of turns of a drill
-abbrev pub most_turns : ℕ
-most_turns = 1000
+-- the greatest number of turns of a drill in dimension d
+abbrev pub most_turns : ℕ → ℕ
+most_turns d = cond (nat_le d 5) 1000 950
 
--- a number that an option of a run takes
+-- a number that an option of a run takes in some dimension
 abbrev pub IsInSetting : Setting → ℕ → Type 0
 IsInSetting Workers n = (1 ≤ n) × (n ≤ most_workers)
 IsInSetting Steps n = n ≤ most_steps
@@ -42,8 +42,8 @@ abbrev pub InRange : Command → Type 0
 InRange (Principal d) = IsDimension d
 InRange (Summary d resume) = IsDimension d
 InRange (Check d) = IsDimension d
-InRange (Run d workers steps resume) = IsDimension d × IsInSetting Workers workers × IsInSetting Steps steps
-InRange (Drill d seed turns) = IsDimension d × (seed < 2 ^ 64) × (turns ≤ most_turns)
+InRange (Run d workers steps resume) = IsDimension d × IsInSetting Workers workers × (steps ≤ step_limit d)
+InRange (Drill d seed turns) = IsDimension d × (seed < 2 ^ 64) × (turns ≤ most_turns d)
 
 -- ---- what stands behind the word `run`
 
@@ -119,12 +119,13 @@ AreEnded items =
     (before after : List Item) → items ≡ before ++ ending ∷ after →
     (after ≡ []) ⊎ ((d : ℕ) × (after ≡ dimension d ∷ []))
 
--- The items make this run: the dimension stands once, each option at most once, and behind `--`, which
--- stands at most once then, there is nothing but the dimension.
+-- The items make this run: the dimension stands once, each option at most once, the steps are at most those of
+-- the dimension, and behind `--`, which stands at most once then, there is nothing but the dimension.
 pub record MakeRun (d workers steps : ℕ) (resume : Bool) (items : List Item) : Type 0 where
   pub one_dimension : dimensions items ≡ d ∷ []
   pub chosen_workers : IsChosen 1 (numbers Workers items) workers
-  pub chosen_steps : IsChosen most_steps (numbers Steps items) steps
+  pub chosen_steps : IsChosen (step_limit d) (numbers Steps items) steps
+  pub few : steps ≤ step_limit d
   pub resumed : resumes items ≡ times resume
   pub ended : AreEnded items
 

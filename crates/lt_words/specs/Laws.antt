@@ -1,8 +1,7 @@
 -- Laws on the words of commands.
 use Rattle.std.specs.Prelude.{◌≡◌, ℕ, List}
 use Rattle.lt_words.specs.declared.words.Command.{Command}
-use Rattle.lt_model.specs.Limits.{step_limit}
-use Rattle.lt_words.specs.Grammar.{IsDimension, InRange, Spells, IsAccepted, FaultAt, most_steps}
+use Rattle.lt_words.specs.Grammar.{InRange, Spells, IsAccepted, FaultAt}
 
 -- words have a fault at one place alone
 abbrev pub EveryFaultHasOnePlace : Type 0
@@ -15,7 +14,3 @@ NoCommandHasAFault = (ws : List (List ℕ)) (p : ℕ) → IsAccepted ws → Faul
 -- words spell one command at most
 abbrev pub WordsSpellOneCommand : Type 0
 WordsSpellOneCommand = (c c' : Command) (ws : List (List ℕ)) → InRange c → InRange c' → Spells c ws → Spells c' ws → c ≡ c'
-
--- the limit on steps is the same in each dimension that a command takes
-abbrev pub StepLimitsAreOne : Type 0
-StepLimitsAreOne = (d : ℕ) → IsDimension d → step_limit d ≡ most_steps

@@ -1,6 +1,7 @@
 -- What the words behind `run` leave to come.
-use Rattle.std.specs.Prelude.{◌≡◌, ℕ, ◌+◌, ◌*◌, Bool, true, false, List, [], ◌∷◌, ◌++◌, ◌⊎◌, ◌↔◌, Option, Some, None, IfSome}
+use Rattle.std.specs.Prelude.{◌≡◌, ℕ, ◌+◌, ◌*◌, ◌≤◌, Bool, true, false, List, [], ◌∷◌, ◌++◌, ◌⊎◌, ◌↔◌, Option, Some, None, IfSome}
 use Rattle.std.specs.Fmt.{decimal}
+use Rattle.lt_model.specs.Limits.{step_limit}
 use Rattle.lt_words.specs.declared.words.Command.{Command}
 use Rattle.lt_words.specs.declared.words.Command.TheVariants.{Principal, Summary, Check, Run, Drill}
 use Rattle.lt_words.specs.declared.options.Setting.{Setting}
@@ -8,27 +9,37 @@ use Rattle.lt_words.specs.declared.options.Setting.TheVariants.{Workers, Steps}
 use Rattle.lt_words.specs.declared.options.Options.{Options}
 use Rattle.lt_words.specs.declared.options.Part.{Part}
 use Rattle.lt_words.specs.declared.options.Part.TheVariants as part
-use Rattle.lt_words.specs.Grammar.{IsDimension, IsInSetting, Item, dimension, setting, AreSpellings, dimensions, numbers, resumes, times, IsChosen, AreEnded, Spells, most_steps}
+use Rattle.lt_words.specs.Grammar.{IsDimension, IsInSetting, Item, dimension, setting, AreSpellings, dimensions, numbers, resumes, times, IsChosen, AreEnded, Spells}
 
 -- the number that was named for a setting
 abbrev pub named : Options → Setting → Option ℕ
 named o Workers = o.workers
 named o Steps = o.steps
 
+-- the number of a setting is within the limit of the dimension, where that was named
+abbrev pub IsInLimit : Options → Setting → ℕ → Type 0
+IsInLimit o Workers n = Unit {0}
+IsInLimit o Steps n = IfSome o.d (λ d. n ≤ step_limit d)
+
+-- the steps that were named are within the limit of this dimension
+abbrev pub LeavesSteps : Options → ℕ → Type 0
+LeavesSteps o d = IfSome o.steps (λ n. n ≤ step_limit d)
+
 -- The numbers that were named are in their ranges. A setting whose number is due has none yet, and `--` didn't stand.
 pub record IsSound (o : Options) : Type 0 where
   pub dimension : IfSome o.d IsDimension
   pub workers : IfSome o.workers (IsInSetting Workers)
   pub steps : IfSome o.steps (IsInSetting Steps)
+  pub few : IfSome o.d (LeavesSteps o)
   pub due : IfSome o.due (λ s. (named o s ≡ None) × (o.ended ≡ false))
 
--- a part may come: nothing but a dimension behind `--`, and nothing twice
+-- a part may come: nothing but a dimension behind `--`, nothing twice, and no more steps than the dimension allows
 abbrev pub Allows : Options → Part → Type 0
-Allows o (part.Dimension d) = o.d ≡ None
+Allows o (part.Dimension d) = (o.d ≡ None) × LeavesSteps o d
 Allows o part.Resume = (o.ended ≡ false) × (o.resume ≡ false)
 Allows o part.Ending = o.ended ≡ false
 Allows o (part.Named s) = (o.ended ≡ false) × (named o s ≡ None)
-Allows o (part.Joined s n) = (o.ended ≡ false) × (named o s ≡ None)
+Allows o (part.Joined s n) = (o.ended ≡ false) × (named o s ≡ None) × IsInLimit o s n
 
 -- the number that stands there, as a list
 abbrev pub listed : Option ℕ → List ℕ
@@ -52,7 +63,8 @@ AreLast false items = AreEnded items
 pub record CompleteRun (o : Options) (d workers steps : ℕ) (resume : Bool) (items : List Item) : Type 0 where
   pub one_dimension : listed o.d ++ dimensions items ≡ d ∷ []
   pub chosen_workers : IsChosen 1 (listed o.workers ++ numbers Workers items) workers
-  pub chosen_steps : IsChosen most_steps (listed o.steps ++ numbers Steps items) steps
+  pub chosen_steps : IsChosen (step_limit d) (listed o.steps ++ numbers Steps items) steps
+  pub few : steps ≤ step_limit d
   pub resumed : times o.resume + resumes items ≡ times resume
   pub last : AreLast o.ended items
 

@@ -5,11 +5,9 @@ ghost use Rattle.std.specs.Fmt.{decimal};
 ghost use Rattle.lt_words.specs.Grammar.{texts, IsDimension, InRange, Spells, FaultAt, place_of};
 ghost use Rattle.lt_words.specs.Parts.{HasFront, HasWord, IsWithin};
 
+use crate::limits::{HIGHEST, LOWEST, turn_limit};
 use crate::numbers::number_of;
 use crate::words::{Command, WordsError};
-
-/// The greatest number of turns of a drill.
-const MOST_TURNS: u64 = 1000;
 
 /// The number, `low` to `high`, that the word at a place spells.
 fn number_at(words: &[&str], place: u32, low: u64, high: u64) -> Result<u64, WordsError>
@@ -32,7 +30,7 @@ fn dimension_at(words: &[&str]) -> Result<u8, WordsError>
     ensures place { IfErr result (λ e. e ≡ WordsError.Fault 1) }
     ensures none { IfErr result (λ _. (d : ℕ) → IsDimension d → HasWord (texts words.now) 1 (decimal d) → ⊥) }
 {
-    let d = number_at(words, 1, 2, 5)?;
+    let d = number_at(words, 1, LOWEST as u64, HIGHEST as u64)?;
     Ok(d as u8)
 }
 
@@ -97,7 +95,7 @@ pub fn read_drill(words: &[&str]) -> Result<Command, WordsError>
 {
     let d = dimension_at(words)?;
     let seed = number_at(words, 2, 0, u64::MAX)?;
-    let length = number_at(words, 3, 0, MOST_TURNS)?;
+    let length = number_at(words, 3, 0, turn_limit(d))?;
     end_at(words, 4)?;
     Ok(Command::Drill { d, seed, length })
 }

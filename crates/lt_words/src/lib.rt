@@ -2,6 +2,7 @@
 #![tactic(auto)]
 
 mod fixed;
+mod limits;
 mod numbers;
 mod options;
 mod words;

@@ -5,6 +5,8 @@ ghost use Rattle.std.specs.Fmt.{decimal};
 ghost use Rattle.lt_words.specs.Grammar.{IsDimension};
 ghost use Rattle.lt_words.specs.Parts.{IsWithin};
 
+use crate::limits::{HIGHEST, LOWEST};
+
 /// Whether a word begins neither with a plus nor with a zero before another byte.
 fn is_bare(word: &str) -> bool
     ensures { IsTrue result ↔ ((get_or word.now 0 0 ≢ 43) × (get_or word.now 0 0 ≡ 48 → length word.now ≡ 1)) }
@@ -35,6 +37,6 @@ pub fn dimension_of(word: &str) -> Option<u8>
     ensures found { IfSome result (λ d. IsDimension d × (word.now ≡ decimal d)) }
     ensures none { IfNone result ((d : ℕ) → IsDimension d → word.now ≡ decimal d → ⊥) }
 {
-    let d = number_of(word, 2, 5)?;
+    let d = number_of(word, LOWEST as u64, HIGHEST as u64)?;
     Some(d as u8)
 }

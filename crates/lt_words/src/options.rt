@@ -5,14 +5,12 @@ ghost use Rattle.std.specs.Fmt.{decimal};
 ghost use Rattle.lt_words.specs.Grammar.{texts, IsInSetting, InRange, Spells, FaultAt, place_of, setting_word};
 ghost use Rattle.lt_words.specs.Parts.{HasFront, IsPart, part_word};
 
+use crate::limits::{LOWEST, step_limit};
 use crate::numbers::{dimension_of, number_of};
 use crate::words::{Command, WordsError};
 
 /// The greatest number of workers.
 const MOST_WORKERS: u64 = 64;
-
-/// The greatest number of steps, which a run takes where none is named.
-const MOST_STEPS: u64 = 100_000;
 
 /// An option of a run that takes a number.
 #[derive(Clone, Copy, Drop)]
@@ -59,14 +57,14 @@ fn setting_of(word: &str) -> Option<Setting>
     }
 }
 
-/// The number that a word spells for an option.
+/// The number that a word spells for an option in some dimension.
 fn value_of(setting: Setting, word: &str) -> Option<u64>
     ensures found { IfSome result (λ n. IsInSetting setting n × (word.now ≡ decimal n)) }
     ensures none { IfNone result ((n : ℕ) → IsInSetting setting n → word.now ≡ decimal n → ⊥) }
 {
     match setting {
         Setting::Workers => number_of(word, 1, MOST_WORKERS),
-        Setting::Steps => number_of(word, 0, MOST_STEPS),
+        Setting::Steps => number_of(word, 0, step_limit(LOWEST)),
     }
 }
 
@@ -91,7 +89,7 @@ fn part_of(word: &str) -> Option<Part>
 }
 
 impl Options {
-    ghost use Rattle.lt_words.specs.Rests.{Allows, IsSound, IsRest, GoesTo, StopsAt, HasRead, TakesNumber, named, words_read};
+    ghost use Rattle.lt_words.specs.Rests.{Allows, IsSound, IsInLimit, LeavesSteps, IsRest, GoesTo, StopsAt, HasRead, TakesNumber, named, words_read};
 
     /// Nothing was said.
     fn new() -> Self
@@ -119,12 +117,33 @@ impl Options {
         }
     }
 
+    /// Whether the number of a setting is within the limit of the dimension, where that was named.
+    fn is_in_limit(self, setting: Setting, n: u64) -> bool
+        ensures { IsTrue result ↔ IsInLimit self setting n }
+    {
+        match (setting, self.d) {
+            (Setting::Steps, Some(d)) => n <= step_limit(d),
+            _ => true,
+        }
+    }
+
+    /// Whether the steps that were named are within the limit of this dimension.
+    fn leaves_steps(self, d: u8) -> bool
+        ensures { IsTrue result ↔ LeavesSteps self d }
+    {
+        match self.steps {
+            None => true,
+            Some(n) => n <= step_limit(d),
+        }
+    }
+
     /// With the number of a setting.
     fn with_number(self, setting: Setting, n: u64) -> Self
         requires sound { IsSound self }
         requires new { named self setting ≡ None }
         requires open { self.ended ≡ false }
         requires range { IsInSetting setting n }
+        requires limit { IsInLimit self setting n }
         ensures sound { IsSound result }
         ensures read { TakesNumber self setting n result }
         ensures words { words_read self < words_read result }
@@ -149,11 +168,13 @@ impl Options {
         ensures { IsTrue result ↔ Allows self part }
     {
         match part {
-            Part::Dimension(_) => self.d.is_none(),
+            Part::Dimension(d) => self.d.is_none() && self.leaves_steps(d),
             Part::Resume => !self.ended && !self.resume,
             Part::Ending => !self.ended,
             Part::Named(setting) => !self.ended && self.number(setting).is_none(),
-            Part::Joined(setting, _) => !self.ended && self.number(setting).is_none(),
+            Part::Joined(setting, n) => {
+                !self.ended && self.number(setting).is_none() && self.is_in_limit(setting, n)
+            }
         }
     }
 
@@ -199,7 +220,13 @@ impl Options {
     {
         match self.due {
             None => self.with_part(part_of(word)?),
-            Some(setting) => Some(self.with_number(setting, value_of(setting, word)?)),
+            Some(setting) => {
+                let n = value_of(setting, word)?;
+                if !self.is_in_limit(setting, n) {
+                    return None;
+                }
+                Some(self.with_number(setting, n))
+            }
         }
     }
 
@@ -213,10 +240,11 @@ impl Options {
         if self.due.is_some() {
             return None;
         }
+        let d = self.d?;
         Some(Command::Run {
-            d: self.d?,
+            d,
             workers: self.workers.unwrap_or(1) as u32,
-            steps: self.steps.unwrap_or(MOST_STEPS),
+            steps: self.steps.unwrap_or(step_limit(d)),
             resume: self.resume,
         })
     }

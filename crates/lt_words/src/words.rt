@@ -1,13 +1,13 @@
 ghost use Rattle.std.specs.Prelude.{◌≡◌, IfOk, IfErr, IfSome, IfNone};
 ghost use Rattle.lt_words.specs.Grammar.{texts, InRange, Spells, FaultAt, place_of};
 ghost use Rattle.lt_words.specs.Parts.{kind_word};
-ghost use Rattle.lt_words.specs.Laws.{EveryFaultHasOnePlace, NoCommandHasAFault, WordsSpellOneCommand, StepLimitsAreOne};
+ghost use Rattle.lt_words.specs.Laws.{EveryFaultHasOnePlace, NoCommandHasAFault, WordsSpellOneCommand};
 
 use crate::fixed::{read_check, read_drill, read_principal, read_summary};
 use crate::options::read_run;
 use thiserror::Error;
 
-/// What the program is asked to do. Each dimension `d` is 2 to 5.
+/// What the program is asked to do. Each dimension `d` is 2 to 6.
 #[derive(Clone, Copy, Debug, PartialEq, Eq, Drop)]
 pub enum Command {
     /// `principal D`: print the principal type of dimension `d`.
@@ -25,15 +25,15 @@ pub enum Command {
     },
     /// `run D --workers N --steps B --resume`: enumerate, from the starting atlas or with `--resume` from the atlas
     /// that is read. `workers` is 1 to 64, and 1 where none is named. `steps` is the number of positions of the
-    /// queue that are settled, 0 to 100,000, and the greatest where none is named.
+    /// queue that are settled, 0 to 100,000, or to 2,000 where `d` is 6, and the greatest where none is named.
     Run {
         d: u8,
         workers: u32,
         steps: u64,
         resume: bool,
     },
-    /// `drill D SEED LENGTH`: settle `length` positions of the queue, at most 1000, that a generator draws from its
-    /// `seed`, write the atlas, read it again and go on. The seed is any number below 2^64.
+    /// `drill D SEED LENGTH`: settle `length` positions of the queue, at most 1000, or 950 where `d` is 6, that a
+    /// generator draws from its `seed`, write the atlas, read it again and go on. The seed is any number below 2^64.
     Drill {
         d: u8,
         seed: u64,
@@ -95,10 +95,9 @@ pub fn read_words(words: &[&str]) -> Result<Command, WordsError>
 }
 
 /// A law, with nothing to run: a list of words has a fault at one place at most, none where it is a command,
-/// and spells one command at most; and the limit on steps is the same in each dimension that a command takes.
+/// and spells one command at most.
 pub fn faults_are_exact()
     ensures one_place { EveryFaultHasOnePlace }
     ensures none { NoCommandHasAFault }
     ensures one_command { WordsSpellOneCommand }
-    ensures one_limit { StepLimitsAreOne }
 {}

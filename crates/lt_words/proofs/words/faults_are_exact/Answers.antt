@@ -1,4 +1,4 @@
-use Rattle.lt_words.proofs.Laws.{one_place, one_command, one_limit}
+use Rattle.lt_words.proofs.Laws.{one_place, one_command}
 use Rattle.lt_words.proofs.words.faults_are_exact.Goals as goal
 
 pub returns-clause-one_place : goal.returns-clause-one_place
@@ -6,6 +6,3 @@ returns-clause-one_place c = one_place
 
 pub returns-clause-one_command : goal.returns-clause-one_command
 returns-clause-one_command c = one_command
-
-pub returns-clause-one_limit : goal.returns-clause-one_limit
-returns-clause-one_limit c = one_limit

@@ -1,0 +1,18 @@
+-- The limits of each dimension are within the widest range.
+use Rattle.std.proofs.Common.{ℕ, ◌≤◌, Bool, true, false, cond, nat_le, arith}
+use Rattle.lt_model.specs.Limits.{step_limit}
+use Rattle.lt_words.specs.Grammar.{most_steps, most_turns}
+
+pub few_steps : (d : ℕ) → step_limit d ≤ most_steps
+few_steps d = few (nat_le d 5)
+  where
+    few : (b : Bool) → cond b 100000 2000 ≤ 100000
+    few true = omega arith
+    few false = omega arith
+
+pub few_turns : (d : ℕ) → most_turns d ≤ 1000
+few_turns d = few (nat_le d 5)
+  where
+    few : (b : Bool) → cond b 1000 950 ≤ 1000
+    few true = omega arith
+    few false = omega arith

@@ -1,0 +1,26 @@
+//! The ranges of the numbers of commands.
+
+ghost use Rattle.std.specs.Prelude.{◌≡◌};
+ghost use Rattle.lt_model.specs.Limits as limits;
+ghost use Rattle.lt_words.specs.Grammar.{most_turns};
+
+/// The lowest dimension.
+pub const LOWEST: u8 = 2;
+
+/// The highest dimension.
+pub const HIGHEST: u8 = 6;
+
+/// The greatest number of steps of a run in dimension `d`, which a run takes where none is named. It is greatest in
+/// the lowest dimension.
+pub fn step_limit(d: u8) -> u64
+    ensures { result ≡ limits.step_limit d }
+{
+    if d <= 5 { 100_000 } else { 2_000 }
+}
+
+/// The greatest number of turns of a drill in dimension `d`.
+pub fn turn_limit(d: u8) -> u64
+    ensures { result ≡ most_turns d }
+{
+    if d <= 5 { 1_000 } else { 950 }
+}
