@@ -19,9 +19,9 @@ Values = Callable[[Atlas, Random], Atlas]
 Item = TypeVar("Item")
 NUMBER = re.compile(rb"-?[0-9]+")
 BORDERS = (
-    0, 1, 2, 5, 6, 400, 401, 800, 801, 100001, 100002, 1000000, 1000001, 1 << 20, (1 << 20) + 1, 1 << 27, (1 << 27) + 1, 1 << 29,
-    (1 << 29) + 1, (1 << 56) - 1, 1 << 56, (1 << 62) - 1, 1 << 62, (1 << 63) - 1, 1 << 63, 1 << 64, (1 << 92) - 1, 1 << 92, 1 << 120,
-    (1 << 120) + 1, (1 << 127) - 1, 1 << 127, 1 << 128, 10**30, 10**60, 10**400,
+    0, 1, 2, 5, 6, 7, 100, 101, 200, 201, 400, 401, 800, 801, 100001, 100002, 1000000, 1000001, 1 << 20, (1 << 20) + 1, 1 << 27,
+    (1 << 27) + 1, 1 << 29, (1 << 29) + 1, (1 << 56) - 1, 1 << 56, (1 << 62) - 1, 1 << 62, (1 << 63) - 1, 1 << 63, 1 << 64,
+    (1 << 92) - 1, 1 << 92, 1 << 120, (1 << 120) + 1, (1 << 127) - 1, 1 << 127, 1 << 128, 10**30, 10**60, 10**400,
 )
 
 
@@ -141,7 +141,7 @@ def another_version(data: bytes, random: Random) -> bytes:
 
 
 def too_long(data: bytes, random: Random) -> bytes:
-    """Bytes at the limit of 2^26, or one more."""
+    """Bytes at the limit of 2^26 of dimensions 2 to 5, or one more."""
     return data + b"\n" * ((1 << 26) - len(data) + random.randrange(2))
 
 
@@ -379,7 +379,7 @@ def other_dimension(atlas: Atlas, random: Random) -> Atlas:
     """The line of the dimension is another one, or the whole text is: the program is then asked for any dimension."""
     if random.random() < 0.5:
         return atlas
-    return replace(atlas, dimension=random.choice([n for n in (0, 1, 2, 3, 4, 5, 6) if n != atlas.dimension]))
+    return replace(atlas, dimension=random.choice([n for n in (0, 1, 2, 3, 4, 5, 6, 7) if n != atlas.dimension]))
 
 
 def untouched(atlas: Atlas, _: Random) -> Atlas:

@@ -16,7 +16,6 @@ from ltypes_atlas import lattice
 from ltypes_atlas.rechecking import wrong_combination, wrong_wall
 from ltypes_atlas.text import Combination, Simplex, negative_of
 
-LIMIT = 1 << 26
 NATURAL = re.compile(rb"0|[1-9][0-9]*")
 WHOLE = re.compile(rb"0|-?[1-9][0-9]*")
 Classes = tuple[Simplex, ...]
@@ -162,7 +161,7 @@ class Grammar:
     def simplex(self) -> Simplex:
         """The line of a class."""
         words = self.line()
-        points = rows_of(words.wholes((self.dimension + 1) * self.dimension, 401), self.dimension)
+        points = rows_of(words.wholes((self.dimension + 1) * self.dimension, lattice.span_limit(self.dimension) + 1), self.dimension)
         words.end()
         return points
 
@@ -206,7 +205,7 @@ class Grammar:
             mark.matrix = rows_of(words.wholes(self.dimension**2, 1 << 62), self.dimension)
         elif mark.kind == b"wide":
             words.natural(1, 1 << 20)
-            words.wholes((self.dimension + 1) * self.dimension, 801)
+            words.wholes((self.dimension + 1) * self.dimension, 2 * lattice.span_limit(self.dimension) + 1)
         elif mark.kind == b"heavy":
             words.natural(0, 1 << 120)
         elif mark.kind != b"open":
@@ -228,7 +227,7 @@ class Grammar:
     def text(self) -> list[Spelt]:
         """The lines of a whole text."""
         self.counted(b"ltypes", self.version, self.version)
-        self.dimension = self.counted(b"dimension", 2, 5)
+        self.dimension = self.counted(b"dimension", 2, 6)
         self.size = comb(self.dimension + 1, 2)
         entries = [self.entry(number) for number in range(self.counted(b"entries", 1, 100001))]
         words = self.line()
@@ -292,7 +291,7 @@ def listed(classes: Classes, version: int) -> Classes:
 
 def is_wide(classes: Classes) -> bool:
     """Whether a class has a span above the limit."""
-    return any(lattice.span(simplex) > lattice.SPAN_LIMIT for simplex in classes)
+    return any(map(lattice.is_wide, classes))
 
 
 # ---- the refusals
@@ -388,9 +387,14 @@ def tests(dimension: int, entries: Sequence[Spelt], found: int, version: int) ->
     yield twin_refusal(entries)
 
 
+def input_limit(dimension: int) -> int:
+    """The greatest number of bytes that are read."""
+    return 1 << 26 if dimension <= 5 else 1 << 30
+
+
 def judged(dimension: int, data: bytes, version: int = 1) -> Answer:
     """What `ltypes check D` has to answer where it reads texts of this version."""
-    if len(data) > LIMIT:
+    if len(data) > input_limit(dimension):
         return Answer(3, "refused: too long")
     try:
         found, entries = parsed(data, version)

@@ -134,7 +134,7 @@ class Recheck:
             yield Fault(entry.number, "simplex", row, "the points are dependent")
         if row and entry.simplices[row - 1] >= simplex:
             yield Fault(entry.number, "simplex", row, "the classes don't ascend")
-        if lattice.span(simplex) > lattice.SPAN_LIMIT:
+        if lattice.is_wide(simplex):
             yield Fault(entry.number, "simplex", row, "the span is above the limit")
 
     # ---- the cone
@@ -259,7 +259,7 @@ def wrong_combination(normals: Sequence[Normal], row: int, verdict: Combination,
 
 def wrong_wide(beyond: Sequence[Simplex], mark: Wide) -> str:
     """The simplex is the first of the flip with a span above the limit."""
-    wide = next((simplex for simplex in beyond if lattice.span(simplex) > lattice.SPAN_LIMIT), None)
+    wide = next(filter(lattice.is_wide, beyond), None)
     if wide != mark.simplex or wide is None or lattice.span(wide) != mark.span:
         return "it isn't the first simplex of the flip above the span limit"
     return ""
