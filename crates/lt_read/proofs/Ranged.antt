@@ -32,15 +32,12 @@ entries_all : (d : ℕ) (marks : List (List Mark)) (j : ℕ) (es : List Entry) �
 entries_all d marks j [] h = tt
 entries_all d marks j (e ∷ es) h = (h 0 j (omega arith) (omega arith), entries_all d marks (suc j) es (λ k n l e. h (suc k) n (omega (arith, l)) (omega (arith, e))))
 
-module _ (a : Atlas) (low : 2 ≤ a.dimension) (high : a.dimension ≤ 5) (kept : IsKept (IsAcross a.dimension) a) (none : stuck (begin a).marks ≡ 0) (few : length a.entries ≤ 100001) where
+module _ (a : Atlas) (low : 2 ≤ a.dimension) (high : a.dimension ≤ 6) (kept : IsKept (IsAcross a.dimension) a) (none : stuck (begin a).marks ≡ 0) (few : length a.entries ≤ 100001) where
   abbrev d : ℕ
   d = a.dimension
 
   abbrev own : ℕ → Classes
   own k = (entry_at a.entries k).triangulation
-
-  within_six : d ≤ 6
-  within_six = omega (arith, high)
 
   form : (k : ℕ) → k < length a.entries → HasForm d (own k)
   form k l = entry_form (IsAcross d) d (across_laws d low) a.entries a.marks kept.right.parts k l
@@ -52,7 +49,7 @@ module _ (a : Atlas) (low : 2 ≤ a.dimension) (high : a.dimension ≤ 5) (kept 
       let before : o.parent < suc k = o.earlier in
       let there : o.parent < length a.entries = omega (arith, before, l) in
       let e = entry_at a.entries o.parent in
-      let rows = few_rows d e.triangulation e.cone low within_six (form o.parent there) (kept.right.parts.entries o.parent there).cone in
+      let rows = few_rows d e.triangulation e.cone low high (form o.parent there) (kept.right.parts.entries o.parent there).cone in
       let most = facets_most e.cone.rows in
       let f = o.within in
       subst (OriginFits (suc k)) (sym o.named) ((λ z. absurd (omega (arith, z))), ((omega arith, omega (arith, there, few)), (omega arith, omega (arith, f, most, rows))))
@@ -63,7 +60,7 @@ module _ (a : Atlas) (low : 2 ≤ a.dimension) (high : a.dimension ≤ 5) (kept 
       let right = kept.right.parts.entries k l in
       let long = length-map (own k) class_numbers in
       let some = f.1.occupied in
-      let most = few_classes d f.0 (own k) low within_six f.1 in
+      let most = few_classes d f.0 (own k) low high f.1 in
       ((omega (arith, long, some), omega (arith, long, most)), classes_all d (own k) (λ s c. class_below d (span_limit d) s (right.classes s c) (near_from_span (span_limit d) (own k) s right.narrow c)))
 
   marks_fit : (k : ℕ) → k < length a.entries → MarksFit d (length (facets (entry_at a.entries k))) (map mark_value (get_or a.marks k []))
@@ -75,14 +72,14 @@ module _ (a : Atlas) (low : 2 ≤ a.dimension) (high : a.dimension ≤ 5) (kept 
         (omega (arith, long, count), omega (arith, long, count)),
         recursion_from_All (MarkFits d) (map mark_value row) (All-from_get_or (MarkFits d) (map mark_value row) (mark_value no_mark) (λ f s.
             let here : f < length row = omega (arith, s, long) in
-            subst (MarkFits d) (sym (get_or-map mark_value row f no_mark (mark_value no_mark) here)) (mark_fits a low within_six kept none (omega (arith, few)) (k, f) (omega (arith, l, lists)) here))),
+            subst (MarkFits d) (sym (get_or-map mark_value row f no_mark (mark_value no_mark) here)) (mark_fits a low high kept none (omega (arith, few)) (k, f) (omega (arith, l, lists)) here))),
       )
 
   entry_fits : (k n : ℕ) → k < length a.entries → n ≡ 0 + k → EntryFits d n (entry_value (entry_at a.entries k) (get_or a.marks n []))
   entry_fits k n l e =
       let s : k ≡ n = omega (arith, e) in
       let c = entry_at a.entries k in
-      subst (λ (m : ℕ). EntryFits d m (entry_value c (get_or a.marks m []))) s (origin_fits k l, (classes_fit k l, (cone_fits d c.triangulation c.cone low within_six (form k l) (kept.right.parts.entries k l).cone, marks_fit k l)))
+      subst (λ (m : ℕ). EntryFits d m (entry_value c (get_or a.marks m []))) s (origin_fits k l, (classes_fit k l, (cone_fits d c.triangulation c.cone low high (form k l) (kept.right.parts.entries k l).cone, marks_fit k l)))
 
   pub text_fits : TextFits (value_of a)
   text_fits =

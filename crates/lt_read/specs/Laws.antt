@@ -59,7 +59,7 @@ pub record IsResumed (a : Atlas) : Type 0 where
 -- an atlas of a run: what it keeps, and it began without wide and heavy marks
 pub record IsOfRun (a : Atlas) : Type 0 where
   pub low : 2 ≤ a.dimension
-  pub high : a.dimension ≤ 5
+  pub high : a.dimension ≤ 6
   pub kept : IsKept (IsAcross a.dimension) a
   pub began : stuck (begin a).marks ≡ 0
 
