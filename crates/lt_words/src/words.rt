@@ -1,7 +1,7 @@
 ghost use Rattle.std.specs.Prelude.{◌≡◌, IfOk, IfErr, IfSome, IfNone};
 ghost use Rattle.lt_words.specs.Grammar.{texts, InRange, Spells, FaultAt, place_of};
 ghost use Rattle.lt_words.specs.Parts.{kind_word};
-ghost use Rattle.lt_words.specs.Laws.{EveryFaultHasOnePlace, NoCommandHasAFault, WordsSpellOneCommand};
+ghost use Rattle.lt_words.specs.Laws.{EveryFaultHasOnePlace, NoCommandHasAFault, WordsSpellOneCommand, DrillsKeepTheStepLimit};
 
 use crate::fixed::{read_check, read_drill, read_principal, read_summary};
 use crate::options::read_run;
@@ -95,9 +95,10 @@ pub fn read_words(words: &[&str]) -> Result<Command, WordsError>
 }
 
 /// A law, with nothing to run: a list of words has a fault at one place at most, none where it is a command,
-/// and spells one command at most.
+/// and spells one command at most; and the run that ends a drill stays within the limit on steps.
 pub fn faults_are_exact()
     ensures one_place { EveryFaultHasOnePlace }
     ensures none { NoCommandHasAFault }
     ensures one_command { WordsSpellOneCommand }
+    ensures drills { DrillsKeepTheStepLimit }
 {}
