@@ -142,7 +142,7 @@ def another_version(data: bytes, random: Random) -> bytes:
 
 def too_long(data: bytes, random: Random) -> bytes:
     """Bytes at the limit of 2^26 of dimensions 2 to 5, or one more."""
-    return data + b"\n" * ((1 << 26) - len(data) + random.randrange(2))
+    return data + b" " * ((1 << 26) - len(data) + random.randrange(2))
 
 
 # ---- values

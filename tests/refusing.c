@@ -1,6 +1,6 @@
-/* Refuses one allocation of a program: preload it with REFUSE_AT=N and the Nth call of malloc or realloc, from 1, that the program itself
-   makes answers that there is no memory. With REFUSE_COUNT=PATH such calls are counted in the first 8 bytes of that file, a number of
-   this machine's kind, however the program ends. */
+/* Refuses one allocation of a program. Preload it with REFUSE_AT=N, and the Nth call of malloc or realloc, from 1, that the
+   program itself makes answers that there is no memory. With REFUSE_COUNT=PATH such calls are counted in the first 8 bytes of
+   that file, a number of this machine's kind, however the program ends. */
 #define _GNU_SOURCE
 #include <errno.h>
 #include <fcntl.h>

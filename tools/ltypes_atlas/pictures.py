@@ -228,6 +228,11 @@ def leaves(found: dict[int, list[int]], count: int) -> list[int]:
     return sizes
 
 
+def graph_side(atlas: Atlas) -> float:
+    """The side of the square in which the graph is drawn: its area grows with the number of types, up to a bound."""
+    return min(2.5 * SIZE, 210 + 110 * sqrt(len(atlas.entries)))
+
+
 def layout(atlas: Atlas) -> list[Place]:
     """A place for each entry: rings by the distance from entry 0 in origins, in sectors as wide as the leaves below."""
     found = children(atlas)
@@ -240,7 +245,8 @@ def layout(atlas: Atlas) -> list[Place]:
             sectors[child] = (start, part, ring + 1)
             start += part
     rings = max(ring for _, _, ring in sectors.values()) or 1
-    middle, gap = 1.25 * SIZE, 1.15 * SIZE / rings
+    middle = graph_side(atlas) / 2
+    gap = 0.92 * middle / rings
     angles = [(sectors[k][0] + sectors[k][1] / 2, sectors[k][2] * gap) for k in range(len(atlas.entries))]
     return [(middle + radius * cos(angle), middle + radius * sin(angle)) for angle, radius in angles]
 
@@ -263,7 +269,8 @@ def graph_picture(atlas: Atlas) -> Iterator[str]:
             yield dot_at(places[entry.number], 8 + (facets - size), fill=fill, stroke="black", stroke_width=1)
             yield label((places[entry.number][0], places[entry.number][1] + 3), str(entry.number), 9)
 
-    return drawing(2.5 * SIZE, 2.5 * SIZE, body())
+    side = graph_side(atlas)
+    return drawing(side, side, body())
 
 
 PICTURES: dict[str, Callable[[Atlas], Iterator[str]]] = {
