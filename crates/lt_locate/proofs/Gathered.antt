@@ -1,5 +1,5 @@
 -- Lists that gather the differences of vertices step by step; for a triangulation they are its edges.
-use Rattle.std.proofs.Common.{◌≡◌, ℕ, zero, suc, ℤ, ◌+◌, ◌<◌, ◌≤◌, ◌++◌, refl, ap, arith, sym, ◌∙◌, subst, List, [], ◌∷◌, ◌⊎◌, ◌↔◌, inl, inr, length, get_or}
+use Rattle.std.proofs.Common.{◌≡◌, ℕ, ℤ, ◌+◌, ◌<◌, ◌≤◌, ◌++◌, ap, arith, sym, ◌∙◌, subst, List, [], ◌∷◌, ◌⊎◌, ◌↔◌, inl, inr, length, get_or}
 use Rattle.std.specs.List.{Contains}
 use Rattle.std.specs.List.Sorted.{IsStrictlySortedBy}
 use Rattle.std.specs.declared.cmp.Ordering.TheVariants.{Less}
@@ -9,7 +9,7 @@ use native.Mathlib.Decide.{dec_le}
 use Rattle.lt_model.specs.Order.{number_list_cmp}
 use Rattle.lt_model.specs.Vectors.{minus, zeros}
 use Rattle.lt_model.specs.Simplices.{IsClass}
-use Rattle.lt_model.proofs.Sets.{Contains-head, Contains-cases, Contains-none, each_holds, number_list_cmp_total}
+use Rattle.lt_model.proofs.Sets.{Contains-head, Contains-cases, Contains-none, number_list_cmp_total}
 use Rattle.lt_triang.specs.Kept.{IsTriangulation}
 use Rattle.lt_triang.proofs.Steps.{get_dimension}
 use Rattle.lt_laws.specs.Edges.{IsEdge}

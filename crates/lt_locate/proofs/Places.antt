@@ -1,12 +1,11 @@
 -- Places of ascending lists, and the sign of the difference of two points.
-use Rattle.std.proofs.Common.{◌≡◌, ℕ, zero, suc, ℤ, pos, negsuc, ◌+ℤ◌, ◌*ℤ◌, ◌<ℤ◌, ◌<◌, ◌≤◌, refl, ap, arith, sym, ◌∙◌, subst, List, [], ◌∷◌, length, get_or}
+use Rattle.std.proofs.Common.{◌≡◌, ℕ, zero, suc, ℤ, pos, negsuc, ◌+ℤ◌, ◌*ℤ◌, ◌<ℤ◌, ◌<◌, ◌≤◌, refl, arith, sym, subst, List, [], ◌∷◌, length, get_or}
 use Rattle.std.proofs.lemmas.Int.{ints}
 use Rattle.std.specs.List.Sorted.{IsStrictlySortedBy}
 use Rattle.std.specs.Cmp.{IsTotalOrder, int_cmp_is, int_ranks}
 use Rattle.std.specs.declared.cmp.Ordering.{Ordering}
 use Rattle.std.specs.declared.cmp.Ordering.TheVariants.{Less, Equal, Greater}
 use Rattle.std.specs.Ordering.{MatchOrdering, int_cmp}
-use Rattle.std.proofs.lemmas.List.{get_or_default}
 use Rattle.std.proofs.lemmas.List.Elements.{Contains-get_or}
 use native.Mathlib.Decide.{dec_le}
 use Rattle.lt_model.specs.Order.{number_list_cmp}
@@ -48,3 +47,13 @@ difference_above zero (a ∷ x) y lx ly = absurd (omega arith)
 difference_above (suc d) [] y lx ly = absurd (omega arith)
 difference_above (suc d) (a ∷ x) [] lx ly = absurd (omega arith)
 difference_above (suc d) (a ∷ x) (b ∷ y) lx ly = rw (one_number a b, difference_above d x y (omega arith) (omega arith)) refl
+
+-- ---- an ascending list holds each member once
+
+pub one_place : {A : Type 0} (R : A → A → Ordering) (o : IsTotalOrder R) (xs : List A) (i k : ℕ) (e : A) → IsStrictlySortedBy R xs → i < length xs → k < length xs → get_or xs i e ≡ get_or xs k e → i ≡ k
+one_place {A = A} R o xs i k e s li lk same = go (dec_le i k) (dec_le k i)
+  where
+    go : Dec (i ≤ k) → Dec (k ≤ i) → i ≡ k
+    go (yes a) (yes b) = omega arith
+    go (yes a) (no b) = absurd (never_below_itself R o (get_or xs i e) (subst (λ (z : A). R (get_or xs i e) z ≡ Less) (sym same) (ascends R xs i k e s (omega arith) lk)))
+    go (no a) b = absurd (never_below_itself R o (get_or xs k e) (subst (λ (z : A). R (get_or xs k e) z ≡ Less) same (ascends R xs k i e s (omega arith) li)))

@@ -1,4 +1,4 @@
-use Rattle.std.proofs.Common.{◌≡◌, ◌+◌, ℤ, List, [], length, get_or, arith, subst, ℕ}
+use Rattle.std.proofs.Common.{◌≡◌, ℤ, List, [], length, get_or, arith, subst, ℕ}
 use Rattle.lt_triang.specs.Kept.{dimension_of, IsTriangulation}
 use Rattle.lt_triang.proofs.Expressed.{dimension_is}
 use Rattle.lt_locate.specs.Collected.{Gathers, IsEdgeBelow, IsEdgeOfFirst}

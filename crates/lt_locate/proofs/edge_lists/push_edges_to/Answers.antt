@@ -1,4 +1,3 @@
-use Rattle.std.proofs.Common.{◌≡◌}
 use Rattle.lt_locate.proofs.Gathered.{to_none, to_more}
 use Rattle.lt_locate.proofs.edge_lists.push_edges_to.Goals as goal
 
