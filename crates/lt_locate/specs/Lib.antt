@@ -1,0 +1,10 @@
+pub mod Edges
+pub mod Collected
+pub mod Firsts
+pub mod Walks
+pub mod Endings
+pub mod Refusals
+pub mod Laws
+pub mod Facing
+pub mod Sides
+pub mod Steps
