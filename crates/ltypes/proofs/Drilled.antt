@@ -110,7 +110,7 @@ drilled_run d seed turns a (low, high) h =
     let same = sym h.dimension in
     record {
       low = subst (λ (z : ℕ). 2 ≤ z) same low;
-      high = subst (λ (z : ℕ). z ≤ 5) same high;
+      high = subst (λ (z : ℕ). z ≤ 6) same high;
       kept = subst (λ (z : ℕ). IsKept (IsAcross z) a) same h.kept;
       began = start_free d (begin a) h.begins;
     }
