@@ -17,11 +17,11 @@ read_again-requires-clause-few c =
     let turns = c.requires.turns in
     omega (arith, few, turns, few_turns c.args.d)
 
-pub run_alone-requires-clause-unrun : goal.run_alone-requires-clause-unrun
-run_alone-requires-clause-unrun c = unrun c.in-Ok.start c.in-Ok-read_again.again c.in-Ok-read_again.ensures.resumed
+pub run_alone-ended-requires-clause-unrun : goal.run_alone-ended-requires-clause-unrun
+run_alone-ended-requires-clause-unrun c = unrun c.in-Ok.start c.in-Ok-read_again.again c.in-Ok-read_again.ensures.resumed
 
-pub run_alone-requires-clause-few : goal.run_alone-requires-clause-few
-run_alone-requires-clause-few c =
+pub run_alone-ended-requires-clause-few : goal.run_alone-ended-requires-clause-few
+run_alone-ended-requires-clause-few c =
     let few = c.in-Ok.ensures.few in
     let turns = c.requires.turns in
     let same = as_many c.in-Ok.start c.in-Ok-read_again.again c.in-Ok-read_again.ensures.resumed in
@@ -31,3 +31,9 @@ pub run_alone-ended-requires-clause-steps : goal.run_alone-ended-requires-clause
 run_alone-ended-requires-clause-steps c =
     let turns = c.requires.turns in
     omega (arith, turns, few_turns c.args.d)
+
+pub returns-clause-drilled : goal.returns-clause-drilled
+returns-clause-drilled c =
+    let ended = c.run_alone-ended in
+    are_drilled c.args.d c.args.seed c.args.turns c.in-Ok.start c.in-Ok-read_again.again ended.result.atlas (drilled_here (goal.at.returns-clause-drilled c).In-Ok) c.in-Ok-read_again.ensures.short c.in-Ok-read_again.ensures.resumed ended.ensures.run ended.ensures.below
+    (ended.ensures.settled c.if-ended.false) c.keeps-2.ensures.kept
