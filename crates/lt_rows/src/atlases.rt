@@ -24,7 +24,7 @@ use std::test::Fail;
 /// The atlas that a run starts from.
 fn starting(rt: &impl Abort, alloc: Global, d: u8) -> Atlas
     requires low { 2 ≤ d }
-    requires high { d ≤ 5 }
+    requires high { d ≤ 6 }
     ensures one { length result.entries ≡ 1 }
     ensures queued { 0 < length result.queue }
 {

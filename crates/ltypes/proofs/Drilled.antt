@@ -110,7 +110,7 @@ drilled_run d seed turns a (low, high) h =
     let same = sym h.dimension in
     record {
       low = subst (λ (z : ℕ). 2 ≤ z) same low;
-      high = subst (λ (z : ℕ). z ≤ 5) same high;
+      high = subst (λ (z : ℕ). z ≤ 6) same high;
       kept = subst (λ (z : ℕ). IsKept (IsAcross z) a) same h.kept;
       began = start_free d (begin a) h.begins;
     }
@@ -119,7 +119,7 @@ drilled_run d seed turns a (low, high) h =
 pub are_drilled : (d seed turns : ℕ) (a s b : Atlas) → IsDrilled d seed turns a → length (atlas_text a) ≤ input_limit d → s ≡ resumed a → IsRunOf s b → AreBelow (2 * turns + 100) b.log → IsSettledBelow (2 * turns + 100) b →
     IsKept (IsAcross b.dimension) b → AreDrilled d seed turns a b
 are_drilled d seed turns a s b h short same run below settled kept =
-    record { drilled = h; short = short; run = is_run d 1 (2 * turns + 100) (resumed a) b h.dimension (run.begins ∙ same) below (λ _. run.order) kept; settled = settled }
+    record { drilled = h; short = short; run = is_run d 1 (2 * turns + 100) (resumed a) b h.dimension (run.begins ∙ same) below run.settled (λ _. run.order) kept; settled = settled }
 
 -- the atlas that is read is one from which a run may go on
 pub unrun : (a s : Atlas) → s ≡ resumed a → s.log ≡ []

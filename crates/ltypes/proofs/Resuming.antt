@@ -23,7 +23,7 @@ resumed_runs d workers steps resume source a (low, high) here few short =
     let same = sym run.dimension in
     let of_run : IsOfRun a = record {
       low = subst (λ (z : ℕ). 2 ≤ z) same low;
-      high = subst (λ (z : ℕ). z ≤ 5) same high;
+      high = subst (λ (z : ℕ). z ≤ 6) same high;
       kept = subst (λ (z : ℕ). IsKept (IsAcross z) a) same run.kept;
       began = ap (λ (z : Atlas). stuck z.marks) run.begins ∙ begins_free d resume source here.start here.beginning;
     } in

@@ -37,7 +37,7 @@ fn write_principal<K: Sink>(alloc: Global, d: u8, out: &mut K) -> Cause
     }
 }
 
-/// The command `principal D`: the principal form and triangulation of dimension `d`, 2 to 5 (Voronoi 1908).
+/// The command `principal D`: the principal form and triangulation of dimension `d`, 2 to 6 (Voronoi 1908).
 ///
 /// It writes to `out` a line `dimension D`, a line `form` with the d(d+1)/2 numbers of the form, a line
 /// `simplices M`, and a line for each of the M classes in ascending order, with the coordinates of its d+1 points.

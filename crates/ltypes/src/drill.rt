@@ -104,7 +104,7 @@ struct Findings {
 /// Drills an atlas, scrambles and matches its entries, writes it, reads it again and goes on.
 fn drill(alloc: Global, d: u8, seed: u64, turns: u64) -> Result<Findings, Cause>
     requires dimension { IsDimension d }
-    requires turns { turns ≤ most_turns }
+    requires turns { turns ≤ most_turns d }
     ensures drilled { IfOk result (λ r. AreDrilled d seed turns r.start r.end) }
     ensures matched { IfOk result (λ r. r.matched ≡ prelude.length r.start.entries) }
     ensures why { IfErr result (IsUndrilled d seed turns) }
@@ -177,7 +177,7 @@ fn write_lines<K: Sink>(
 /// Drills, and writes what was found.
 fn write_drill<K: Sink>(alloc: Global, d: u8, seed: u64, turns: u64, out: &mut K) -> Cause
     requires dimension { IsDimension d }
-    requires turns { turns ≤ most_turns }
+    requires turns { turns ≤ most_turns d }
     ensures { AnswersDrill d seed turns (change (K.held out.old) (K.held out.new) (K.faults out.old) (K.faults out.new)) result }
 {
     match drill(alloc, d, seed, turns) {
@@ -189,8 +189,8 @@ fn write_drill<K: Sink>(alloc: Global, d: u8, seed: u64, turns: u64, out: &mut K
     }
 }
 
-/// The command `drill D SEED LENGTH`: a run of dimension `d`, 2 to 5, that settles at most `length` positions of the queue, each of
-/// which a generator draws among the open ones; `length` is at most 1000, and the generator begins with the seed. Then the triangulation of
+/// The command `drill D SEED LENGTH`: a run of dimension `d`, 2 to 6, that settles at most `length` positions of the queue, each of
+/// which a generator draws among the open ones; `length` is at most 1000, or 950 where `d` is 6, and the generator begins with the seed. Then the triangulation of
 /// each entry is scrambled and the image matched onto it; the text of the atlas is written in memory and read again with all checks; and a
 /// run from the atlas that was read settles its first `2 * length + 100` positions.
 ///
@@ -206,7 +206,7 @@ pub fn drill_command<K: Sink, E: Sink>(
     err: &mut E,
 ) -> Status
     requires dimension { IsDimension d }
-    requires turns { length ≤ most_turns }
+    requires turns { length ≤ most_turns d }
     ensures code { result.code ≡ code_of result.cause }
     ensures answer { AnswersDrill d seed length (change (K.held out.old) (K.held out.new) (K.faults out.old) (K.faults out.new)) result.cause }
     ensures line { Reports (change (E.held err.old) (E.held err.new) (E.faults err.old) (E.faults err.new)) (err_text result.cause) }

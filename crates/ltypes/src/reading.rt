@@ -31,7 +31,7 @@ fn write_check<S: Source, K: Sink>(alloc: Global, d: u8, source: &mut S, out: &m
     }
 }
 
-/// The command `check D`: whether the source spells a right atlas of dimension `d`, 2 to 5. Each cone is checked by its certificates,
+/// The command `check D`: whether the source spells a right atlas of dimension `d`, 2 to 6. Each cone is checked by its certificates,
 /// each triangulation and each crossing by a flip, and no two entries may be equivalent.
 ///
 /// It writes to `out` the line `ok types E facets F crossed X undecided O`, where the atlas is right, with wide and heavy marks counted
@@ -81,7 +81,7 @@ fn write_counts<S: Source, K: Sink>(
     }
 }
 
-/// The command `summary D`, or `summary D --resume`: the counts of the starting atlas of dimension `d`, 2 to 5, which has the principal
+/// The command `summary D`, or `summary D --resume`: the counts of the starting atlas of dimension `d`, 2 to 6, which has the principal
 /// type alone, or with `resume` of the atlas that the source spells.
 ///
 /// It writes to `out` a header, a line for each type with its number, classes, regulators, facets, crossed facets, open facets

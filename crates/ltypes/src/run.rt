@@ -2,7 +2,8 @@
 
 ghost use Rattle.std.specs.Prelude.{◌≡◌, ◌<◌, ◌≤◌, ◌+◌, true, false};
 ghost use Rattle.lt_model.specs.Atlases.{undecided, stuck};
-ghost use Rattle.lt_words.specs.Grammar.{IsDimension, most_steps, most_workers};
+ghost use Rattle.lt_model.specs.Limits.{step_limit};
+ghost use Rattle.lt_words.specs.Grammar.{IsDimension, most_workers};
 ghost use Rattle.ltypes.specs.Changes.{change};
 ghost use Rattle.ltypes.specs.Texts.{code_of, err_text};
 ghost use Rattle.ltypes.specs.Answers.{Reports};
@@ -58,7 +59,7 @@ fn write_run_alone<S: Source, K: Sink>(
     out: &mut K,
 ) -> Cause
     requires dimension { IsDimension d }
-    requires steps { steps ≤ most_steps }
+    requires steps { steps ≤ step_limit d }
     ensures answer { AnswersRun d 1 steps resume
         (change (S.left source.old) (S.left source.new) (S.faults source.old) (S.faults source.new))
         (change (K.held out.old) (K.held out.new) (K.faults out.old) (K.faults out.new)) result }
@@ -74,9 +75,9 @@ fn write_run_alone<S: Source, K: Sink>(
     write_ended(&ended, out)
 }
 
-/// The command `run D --steps B`, or `run D --steps B --resume`, by one worker: Voronoi's second reduction in dimension `d`, 2 to 5
+/// The command `run D --steps B`, or `run D --steps B --resume`, by one worker: Voronoi's second reduction in dimension `d`, 2 to 6
 /// (Voronoi 1908; Schürmann, chapter 4), from the principal type, or with `resume` from the atlas that the source spells. It settles
-/// the first `steps` positions of the queue, at most 100,000, in order.
+/// the first `steps` positions of the queue, at most 100,000, or 2,000 where `d` is 6, in order.
 ///
 /// It writes to `out` the text of the atlas: for each type its classes, its regulators with their certificates, its cone's form, and
 /// for each facet the type beyond it with a matrix. Finished where every facet is crossed: the atlas then has exactly one member of
@@ -92,7 +93,7 @@ pub fn run_alone_command<S: Source, K: Sink, E: Sink>(
     err: &mut E,
 ) -> Status
     requires dimension { IsDimension d }
-    requires steps { steps ≤ most_steps }
+    requires steps { steps ≤ step_limit d }
     ensures code { result.code ≡ code_of result.cause }
     ensures answer { AnswersRun d 1 steps resume
         (change (S.left source.old) (S.left source.new) (S.faults source.old) (S.faults source.new))
@@ -117,7 +118,7 @@ fn write_run<R: Threads + Wait + Sync, S: Source, K: Sink, G: Gate>(
     gate: &G,
 ) -> Cause
     requires dimension { IsDimension d }
-    requires steps { steps ≤ most_steps }
+    requires steps { steps ≤ step_limit d }
     requires several { 2 ≤ workers }
     requires crowd { workers ≤ most_workers }
     ensures answer { AnswersRun d workers steps resume
@@ -150,7 +151,7 @@ pub fn run_command<R: Threads + Wait + Sync, S: Source, K: Sink, E: Sink, G: Gat
     gate: &G,
 ) -> Status
     requires dimension { IsDimension d }
-    requires steps { steps ≤ most_steps }
+    requires steps { steps ≤ step_limit d }
     requires several { 2 ≤ workers }
     requires crowd { workers ≤ most_workers }
     ensures code { result.code ≡ code_of result.cause }

@@ -57,7 +57,7 @@ fn take_turn(alloc: Global, atlas: &mut Atlas, draws: &mut Draws, count: u64) ->
 /// The starting atlas of dimension `d` after so many turns, or fewer where no position is open any more. Memory where memory was refused.
 pub fn drilled(alloc: Global, d: u8, draws: &mut Draws, turns: u64) -> Result<Atlas, Memory>
     requires dimension { IsDimension d }
-    requires turns { turns ≤ most_turns }
+    requires turns { turns ≤ most_turns d }
     ensures drilled { IfOk result (λ a. IsDrilled d draws.old turns a) }
     ensures few { IfOk result (λ a. length a.entries ≤ 1 + turns) }
 {

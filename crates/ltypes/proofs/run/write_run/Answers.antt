@@ -1,9 +1,15 @@
 use Rattle.std.proofs.Common.{arith}
+use Rattle.lt_words.proofs.Ranges.{few_steps}
 use Rattle.ltypes.specs.Changes.{change}
 use Rattle.ltypes.specs.Runs.{IsRunHere}
 use Rattle.ltypes.proofs.Started.{begins_in_dimension}
 use Rattle.ltypes.proofs.Ending.{is_run, answers}
 use Rattle.ltypes.proofs.run.write_run.Goals as goal
+
+pub enumerate-ended-requires-clause-steps : goal.enumerate-ended-requires-clause-steps
+enumerate-ended-requires-clause-steps g c =
+    let steps = c.requires.steps in
+    omega (arith, steps, few_steps c.args.d)
 
 pub returns-clause-answer : goal.returns-clause-answer
 returns-clause-answer g c =

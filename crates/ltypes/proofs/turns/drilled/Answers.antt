@@ -1,4 +1,5 @@
 use Rattle.std.proofs.Common.{◌≡◌, ◌≤◌, ℕ, ◌+◌, arith, sym, ◌∙◌, subst, inl, inr}
+use Rattle.lt_words.proofs.Ranges.{few_turns}
 use Rattle.ltypes.specs.Drills.{open_positions}
 use Rattle.ltypes.proofs.Openings.{none_undecided}
 use Rattle.ltypes.proofs.Turned.{IsDrilledTo, no_turn, next_turn, is_drilled}
@@ -11,7 +12,7 @@ pub take_turn-requires-clause-few : goal.take_turn-requires-clause-few
 take_turn-requires-clause-few c =
     let few = c.loop-turn.invariant.start.2.few in
     let turns = c.requires.turns in
-    omega (arith, few, c.loop-turn-test.true, turns)
+    omega (arith, few, c.loop-turn-test.true, turns, few_turns c.args.d)
 
 pub loop-turn-preserved : goal.loop-turn-preserved
 loop-turn-preserved c =

@@ -3,8 +3,8 @@ use Rattle.std.proofs.lemmas.Nat.{mod_below}
 use Rattle.ltypes.proofs.Turned.{takes, on_ok}
 use Rattle.ltypes.proofs.turns.take_turn.Goals as goal
 
-pub open_position-requires : goal.open_position-requires
-open_position-requires c =
+pub open_position-position-requires : goal.open_position-position-requires
+open_position-position-requires c =
     let some = c.requires.some in
     let below = mod_below (c.next-number.new.self / 2 ^ 33) c.args.count (omega (arith, some)) in
     let answer = c.next-number.ensures.answer in
