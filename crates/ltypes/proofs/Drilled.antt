@@ -1,9 +1,9 @@
 -- What a drill finds: its entries match their scrambled images, its text is read again where it isn't too long, and how it ends.
 use Rattle.std.proofs.Common.{◌≡◌, ℕ, zero, suc, ℤ, ◌+◌, ◌*◌, ◌^◌, ◌<◌, ◌≤◌, refl, arith, sym, ap, ◌∙◌, subst, inl, inr, ◌⊎◌, List, [], ◌∷◌, ◌++◌, length, Bool, true, false, cond, length-append}
-use Rattle.std.specs.Prelude.{Option, Some, None, MatchOption, is_some, nat_le}
+use Rattle.std.specs.Prelude.{Option, Some, None, Result, MatchOption, is_some, nat_le}
 use Rattle.std.specs.Io.KnownBytes.{Appends}
 use Rattle.std.proofs.lemmas.Bool.{cases_lt}
-use Rattle.lt_io.specs.Bytes.{AppendsFront}
+use Rattle.lt_io.specs.Bytes.{AppendsFront, Wrote}
 use Rattle.lt_io.specs.Causes.{Rose}
 use Rattle.lt_io.proofs.Compose.{nothing_appended}
 use Rattle.lt_model.specs.Atlases.{Atlas, begin, stuck}
@@ -139,3 +139,7 @@ undrilled d seed turns before now held (Refused r) (inr (a, drilled, why)) = (a,
 undrilled d seed turns before now held Memory (inr (a, drilled, why)) = nothing_appended held
 undrilled d seed turns before now held ReadFault (inr (a, drilled, why)) = absurd why
 undrilled d seed turns before now held WriteFault (inr (a, drilled, why)) = absurd why
+
+-- what is written, by another name
+pub told : {T E : Type 0} (a b : Option (List ℕ)) (r : Result T E) (x y : List ℕ) → x ≡ y → Wrote a b r x → Wrote a b r y
+told a b r x y same w = subst (λ (l : List ℕ). Wrote a b r l) same w
