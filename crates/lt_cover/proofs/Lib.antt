@@ -1,0 +1,8 @@
+mod Measures
+mod Centres
+mod Systems
+mod Loops
+mod Sums
+mod Best
+mod Longest
+mod Covering
