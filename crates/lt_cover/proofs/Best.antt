@@ -1,7 +1,10 @@
 -- The greatest radius of the members so far.
-use Rattle.std.proofs.Common.{◌≡◌, ℕ, zero, suc, ℤ, pos, negsuc, ◌-ℤ◌, ◌*ℤ◌, refl, ◌<ℤ◌, ◌≤ℤ◌, ◌+◌, ◌<◌, ◌≤◌, ap, arith, sym, ◌∙◌, subst, List, [], ◌∷◌, length, get_or}
+use Rattle.std.proofs.Common.{◌≡◌, ℕ, zero, suc, ℤ, pos, negsuc, ◌-ℤ◌, ◌*ℤ◌, refl, ◌<ℤ◌, ◌≤ℤ◌, ◌+◌, ◌<◌, ◌≤◌, ap, arith, sym, subst, List, [], ◌∷◌, length, get_or}
 use Rattle.std.proofs.lemmas.Int.{ints}
 use Rattle.std.proofs.lemmas.List.Elements.{Contains-get_or}
+use Rattle.std.specs.declared.cmp.Ordering.{Ordering}
+use Rattle.std.specs.declared.cmp.Ordering.TheVariants.{Less, Equal, Greater}
+use Rattle.std.specs.Ordering.{MatchOrdering}
 use native.Mathlib.Decide.{dec_le}
 use Rattle.lt_model.proofs.Ring.{ring, var, ◌⊗◌}
 use Rattle.lt_model.proofs.Inequalities.{mul_le_mul_z, mul_lt_mul_z, le_of_mul_le_mul_z}
@@ -41,6 +44,12 @@ strictly a b c e f g pb pe pg h k =
         go (pos (suc n)) k = omega (arith, ints, k)
         go (negsuc n) k = let l = le_of_mul_le_mul_z e u v pe (omega (arith, ints, h)) in absurd (omega (arith, ints, l, k))
 
+-- where the first isn't less, it is at least the second
+pub not_less : (o : Ordering) (x y : ℤ) → MatchOrdering o (x <ℤ y) (x ≡ y) (y <ℤ x) → (o ≡ Less → ⊥) → y ≤ℤ x
+not_less Less x y h n = absurd (n refl)
+not_less Equal x y h n = omega (arith, ints, h)
+not_less Greater x y h n = omega (arith, ints, h)
+
 pub record IsBest (d : ℕ) (q : List ℤ) (t : List (List (List ℤ))) (m : ℕ) (r : Ratio) (k : ℕ) : Type 0 where
   pub within : k < m
   pub radius : IsRadius d q (get_or t k []) r
@@ -59,10 +68,10 @@ module _ (d : ℕ) (q : List ℤ) (t : List (List (List ℤ))) (k : IsDelaunay d
     within = omega arith;
     radius = a;
     greatest = λ j x l b. (
-      let z : 0 ≡ j = omega arith in
-      let e = one_radius 0 x r k.occupied (subst (λ (i : ℕ). IsRadius d q (get_or t i []) x) (sym z) b) a in
-      omega (arith, ints, e)
-    );
+        let z : 0 ≡ j = omega arith in
+        let e = one_radius 0 x r k.occupied (subst (λ (i : ℕ). IsRadius d q (get_or t i []) x) (sym z) b) a in
+        omega (arith, ints, e)
+        );
     first = λ j x l b. absurd (omega (arith, l));
   }
 

@@ -1,5 +1,5 @@
 -- A solution of the system of a class gives its circumcentre; and the system has one.
-use Rattle.std.proofs.Common.{◌≡◌, ℕ, zero, suc, ℤ, pos, negsuc, ◌+ℤ◌, ◌-ℤ◌, ◌*ℤ◌, ◌<ℤ◌, ◌<◌, ◌≤◌, refl, ap, ap₂, arith, sym, ◌∙◌, subst, List, [], ◌∷◌, length, map, drop, get_or}
+use Rattle.std.proofs.Common.{◌≡◌, ℕ, suc, ℤ, pos, negsuc, ◌+ℤ◌, ◌-ℤ◌, ◌*ℤ◌, ◌<◌, ◌≤◌, refl, ap, ap₂, arith, sym, ◌∙◌, subst, List, [], ◌∷◌, length, map, drop, get_or, inl, inr}
 use Rattle.std.proofs.lemmas.Int.{ints}
 use Rattle.std.specs.List.{Contains}
 use Rattle.std.proofs.lemmas.List.{get_or_default}
@@ -8,14 +8,14 @@ use Rattle.lt_model.proofs.Ring.{ring, ring_by_two, var, num, ◌⊗◌}
 use Rattle.lt_model.proofs.Inequalities.{cancel_z}
 use Rattle.lt_model.proofs.Vectors.{dot_comm}
 use Rattle.lt_model.proofs.Excess.{gradient, map-same}
-use Rattle.lt_model.proofs.Walk.{length-map, length-combine, number_at-map, number_at-scale}
+use Rattle.lt_model.proofs.Walk.{length-combine, number_at-map, number_at-scale}
 use Rattle.lt_model.proofs.Opposite.{zeros-dot, length-zeros}
 use Rattle.lt_model.proofs.Expressions.{number_at-zeros}
 use Rattle.lt_model.proofs.Differences.{differences_from_independent}
 use Rattle.lt_model.proofs.Sets.{Contains-head, Contains-tail, Contains-cases}
-use Rattle.lt_model.specs.Vectors.{minus, scale, dot, combine, zeros, IsPrimitive, AreLinearlyIndependent}
-use Rattle.lt_model.specs.Forms.{value, polar, IsPositiveDefinite}
-use Rattle.lt_model.specs.Simplices.{AllOfDimension, IsClass, translate}
+use Rattle.lt_model.specs.Vectors.{minus, scale, dot, combine, zeros, AreLinearlyIndependent}
+use Rattle.lt_model.specs.Forms.{value, polar}
+use Rattle.lt_model.specs.Simplices.{AllOfDimension, IsClass}
 use Rattle.lt_model.specs.Facets.{number_at}
 use Rattle.lt_geometry.proofs.Fewness.{scale-zeros}
 use Rattle.lt_geometry.proofs.Parity.{value-zeros}
@@ -27,8 +27,6 @@ use Rattle.lt_solve.specs.Forms.{row_of}
 use Rattle.lt_solve.specs.Systems.{IsSolution, IsColumnDependency}
 use Rattle.lt_solve.proofs.Solved.{row_combine}
 use Rattle.lt_triang.proofs.Columned.{columns-class}
-use Rattle.lt_triang.specs.Flat.{columns_of}
-use Rattle.lt_laws.specs.Circumradii.{IsCentre}
 use Rattle.lt_laws.proofs.Circumradii.{polar_sum, pulled, distance, vertex_dimension}
 use Rattle.lt_laws.proofs.Halves.{twice_value}
 use Rattle.lt_cover.specs.Gram.{gram, IsMeasured}
@@ -105,8 +103,8 @@ same_radius : (e x n g s : ℤ) → pos 2 *ℤ x ≡ g *ℤ s → n *ℤ (pos 2 
 same_radius e x n g s a b =
     cancel_z (pos 2) (e *ℤ x) (n *ℤ (g *ℤ g)) (omega (arith, ints))
     (ring_by_two (e ∷ x ∷ n ∷ g ∷ s ∷ []) (num (pos 2) ⊗ (var 0 ⊗ var 1)) (num (pos 2) ⊗ (var 2 ⊗ (var 3 ⊗ var 3)))
-      (var 0) (num (pos 2) ⊗ var 1) (var 3 ⊗ var 4)
-      (num (negsuc 0) ⊗ var 3) (var 2 ⊗ (num (pos 2) ⊗ var 3)) (var 4 ⊗ var 0) tt a b)
+    (var 0) (num (pos 2) ⊗ var 1) (var 3 ⊗ var 4)
+    (num (negsuc 0) ⊗ var 3) (var 2 ⊗ (num (pos 2) ⊗ var 3)) (var 4 ⊗ var 0) tt a b)
 
 -- e (g^2 a + x - g y) is e x where y is g a
 same_distance : (e a x g y z : ℤ) → z ≡ g *ℤ g *ℤ a +ℤ x -ℤ g *ℤ y → y ≡ g *ℤ a → z ≡ x

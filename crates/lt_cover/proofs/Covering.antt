@@ -1,15 +1,12 @@
 -- The greatest squared circumradius is the squared covering radius.
-use Rattle.std.proofs.Common.{◌≡◌, ℕ, ℤ, pos, ◌*ℤ◌, ◌≤ℤ◌, ◌<◌, ◌∙◌, sym, subst, List, [], length, get_or}
+use Rattle.std.proofs.Common.{◌≡◌, ℤ, ◌*ℤ◌, ◌≤ℤ◌, ◌∙◌, sym, subst, List, [], get_or}
 use Rattle.std.specs.List.{Contains}
 use Rattle.std.proofs.lemmas.List.{get_or_default}
 use Rattle.std.proofs.lemmas.List.Elements.{Contains-get_or}
 use Rattle.lt_model.specs.Simplices.{IsClass, IsStrictlyEmpty}
-use Rattle.lt_model.specs.Triangulations.{IsDelaunay}
-use Rattle.lt_num.specs.Fractions.{Ratio}
 use Rattle.lt_laws.specs.Circumradii.{IsCentre}
 use Rattle.lt_laws.proofs.Circumradii.{balls_are_empty}
 use Rattle.lt_laws.proofs.Covering.{greatest_covers}
-use Rattle.lt_cover.specs.Covers.{IsRadius, IsCover}
 use Rattle.lt_cover.specs.Laws.{CoversAreCoveringRadii}
 
 pub covering : CoversAreCoveringRadii

@@ -1,5 +1,5 @@
 -- The first edge above the span limit, and edges that are within it.
-use Rattle.std.proofs.Common.{◌≡◌, ℕ, ℤ, pos, ◌<ℤ◌, ◌≤ℤ◌, ◌<◌, arith, ◌∙◌, subst, List, [], length, get_or}
+use Rattle.std.proofs.Common.{ℕ, ℤ, pos, ◌≤ℤ◌, ◌<◌, arith, ◌∙◌, subst, List, [], length, get_or}
 use Rattle.std.proofs.lemmas.Int.{ints}
 use Rattle.std.specs.List.{Contains}
 use Rattle.std.proofs.lemmas.List.{get_or_default}

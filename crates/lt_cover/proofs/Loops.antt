@@ -1,5 +1,5 @@
 -- Lists that are made member by member from the rest of a list.
-use Rattle.std.proofs.Common.{◌≡◌, ℕ, suc, ℤ, ◌+◌, ◌-◌, ◌*◌, ◌<◌, ◌≤◌, refl, ap, ap₂, arith, sym, ◌∙◌, List, [], ◌∷◌, ◌++◌, length, map, drop, get_or, append_assoc, add-one, drop-cons, mul-le-mul}
+use Rattle.std.proofs.Common.{◌≡◌, ℕ, suc, ℤ, ◌+◌, ◌-◌, ◌*◌, ◌<◌, ◌≤◌, refl, ap, arith, sym, ◌∙◌, List, [], ◌∷◌, ◌++◌, length, map, drop, get_or, append_assoc, add-one, drop-cons, mul-le-mul}
 use Rattle.std.proofs.lemmas.List.{append-nil, drop_all, length-append, length-drop, length-map}
 use Rattle.lt_model.specs.Flat.{flat}
 
@@ -52,7 +52,7 @@ module _ (f : List ℤ → List ℤ) (s : List (List ℤ)) where
   pub column_room : (d i : ℕ) (all : List ℤ) → d ≤ 6 → length s ≡ suc d → ((w : List ℤ) → length (f w) ≡ d) → i < length s → 1 ≤ i → all ++ flat (map f (drop i s)) ≡ flat (map f (drop 1 s)) → length all + length s ≤ 37
   column_room d i all high count h l one g =
       let a : length all + (length s - i) * d ≡ (length s - 1) * d =
-        ap (λ (n : ℕ). length all + n) (sym (length_columns d h (drop i s) ∙ ap (λ (n : ℕ). n * d) (length-drop i s))) ∙ sym (length-append all (flat (map f (drop i s)))) ∙ ap length g ∙ length_columns d h (drop 1 s) ∙ ap (λ (n : ℕ). n * d) (length-drop 1 s) in
+      ap (λ (n : ℕ). length all + n) (sym (length_columns d h (drop i s) ∙ ap (λ (n : ℕ). n * d) (length-drop i s))) ∙ sym (length-append all (flat (map f (drop i s)))) ∙ ap length g ∙ length_columns d h (drop 1 s) ∙ ap (λ (n : ℕ). n * d) (length-drop 1 s) in
       let few : length s - 1 ≤ 6 = omega (arith, count, high) in
       let b : (length s - 1) * d ≤ 36 = mul-le-mul few high in
       let left : 1 ≤ length s - i = omega arith in

@@ -1,5 +1,5 @@
 -- The members of a Delaunay triangulation with short edges, and how large the products of their vertices are.
-use Rattle.std.proofs.Common.{◌≡◌, ℕ, ℤ, pos, ◌+ℤ◌, ◌-ℤ◌, ◌≤ℤ◌, ◌<ℤ◌, ◌≤◌, ◌<◌, ◌*◌, ◌^◌, refl, ap, arith, sym, ◌∙◌, subst, List, [], length, get_or, nat_abs, Bool, true, false, cond, nat_le}
+use Rattle.std.proofs.Common.{◌≡◌, ℕ, ℤ, pos, ◌+ℤ◌, ◌-ℤ◌, ◌≤ℤ◌, ◌≤◌, ◌<◌, ◌*◌, ◌^◌, refl, ap, arith, sym, ◌∙◌, subst, List, [], length, get_or, nat_abs, Bool, true, false, cond, nat_le}
 use Rattle.std.proofs.lemmas.Int.{ints}
 use Rattle.std.specs.List.{All, Contains}
 use Rattle.std.specs.declared.cmp.Ordering.{Ordering}
@@ -88,10 +88,10 @@ measured d q t s low high k short within m near =
       positive = k.positive;
       within = within;
       short = λ x y cx cy. (
-        let lx = vertex_dimension d s x c.simplex.points cx in
-        let ly = vertex_dimension d s y c.simplex.points cy in
-        differences_short d q t short s c m x y cx cy (nonneg d q (minus x y) k.positive (length-minus d x y lx ly)) (λ e. none_there d q x y k.positive lx ly e)
-      );
+          let lx = vertex_dimension d s x c.simplex.points cx in
+          let ly = vertex_dimension d s y c.simplex.points cy in
+          differences_short d q t short s c m x y cx cy (nonneg d q (minus x y) k.positive (length-minus d x y lx ly)) (λ e. none_there d q x y k.positive lx ly e)
+          );
     }
 
 limit_small : (d : ℕ) → span_limit d ≤ 400

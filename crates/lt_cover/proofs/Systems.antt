@@ -1,5 +1,5 @@
 -- The system of a class: its columns, how many numbers they have, and how large these are.
-use Rattle.std.proofs.Common.{◌≡◌, ℕ, zero, suc, ℤ, pos, ◌≤ℤ◌, ◌≤◌, ◌<◌, ◌+◌, ◌*◌, refl, ap, ap₂, arith, sym, ◌∙◌, subst, List, [], ◌∷◌, length, map, drop, take, get_or, nat_abs}
+use Rattle.std.proofs.Common.{◌≡◌, ℕ, zero, suc, ℤ, pos, ◌≤ℤ◌, ◌<◌, ◌*◌, refl, ap, arith, ◌∙◌, subst, List, [], ◌∷◌, length, map, drop, take, get_or}
 use Rattle.std.proofs.lemmas.Int.{ints}
 use Rattle.std.specs.List.{All, AllByRecursion, Contains}
 use Rattle.std.proofs.lemmas.List.{get_or_default}

@@ -37,4 +37,3 @@ impl From<Memory> for CoverError {
         CoverError::Memory
     }
 }
-

@@ -7,13 +7,14 @@ ghost use Rattle.lt_model.specs.Limits.{span_limit};
 ghost use Rattle.lt_model.specs.Triangulations.{IsDelaunay};
 ghost use Rattle.lt_lattice.specs.Ranges.{IsWithin};
 ghost use Rattle.lt_triang.specs.Kept.{dimension_of};
-ghost use Rattle.lt_cover.specs.Covers.{IsCover, AreShort};
+ghost use Rattle.lt_cover.specs.Covers.{IsCover, IsRadius, AreShort};
 ghost use Rattle.lt_cover.specs.Long.{IsLong, IsLongAt, AreShortAt};
 
 use crate::answers::{Cover, CoverError};
 use crate::radii::radius_of;
 use lt_lattice::{Form, Point, value};
 use lt_locate::edges;
+use lt_num::Fraction;
 use lt_triang::{Triangulation, span_limit};
 use std::alloc::Global;
 use std::cmp::Ordering;
@@ -38,6 +39,20 @@ fn check_lengths(d: u8, q: &Form, points: &[Point]) -> Result<(), CoverError>
     Ok(())
 }
 
+/// The squared circumradius of the member at place `k`.
+fn radius_at(q: &Form, t: &Triangulation, k: usize) -> Fraction
+    requires delaunay { IsDelaunay (dimension_of t.now) q.now t.now }
+    requires within { All (IsWithin (2 ^ 40)) q.now }
+    requires short { AreShort (dimension_of t.now) q.now t.now }
+    requires place { k < length t.now }
+    ensures { IsRadius (dimension_of t.now) q.now (get_or t.now k []) result }
+{
+    let class = t.class(k);
+    // It shows how near the vertices are to one another.
+    let _dimension = class.dimension();
+    radius_of(q, class)
+}
+
 /// The first member with the greatest squared circumradius.
 fn greatest(q: &Form, t: &Triangulation) -> Cover
     requires delaunay { IsDelaunay (dimension_of t.now) q.now t.now }
@@ -46,11 +61,11 @@ fn greatest(q: &Form, t: &Triangulation) -> Cover
     ensures { IsCover (dimension_of t.now) q.now t.now result.radius result.class }
 {
     let mut best = Cover {
-        radius: radius_of(q, t.class(0)),
+        radius: radius_at(q, t, 0),
         class: 0,
     };
     for class in 1..t.len() {
-        let radius = radius_of(q, t.class(class));
+        let radius = radius_at(q, t, class);
         match best.radius.cmp(&radius) {
             Ordering::Less => best = Cover { radius, class },
             _ => {}

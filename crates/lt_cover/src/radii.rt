@@ -1,17 +1,19 @@
 //! The squared circumradius of a class.
 
-ghost use Rattle.std.specs.Prelude.{◌≡◌, ◌<◌, ◌≤◌, ◌-◌, ◌^◌, ◌*ℤ◌, ◌<ℤ◌, pos, nat_abs, length};
+ghost use Rattle.std.specs.Prelude.{◌≡◌, ◌<◌, ◌≤◌, ◌-◌, ◌^◌, ◌*ℤ◌, ◌<ℤ◌, pos, nat_abs, length, map, drop};
 ghost use Rattle.std.specs.List.{All};
 ghost use Rattle.lt_model.specs.Vectors.{dot};
+ghost use Rattle.lt_model.specs.Forms as form;
 ghost use Rattle.lt_lattice.specs.Ranges.{IsWithin, IsBelow};
 ghost use Rattle.lt_num.specs.Fractions.{IsQuotient};
-ghost use Rattle.lt_cover.specs.Gram.{IsMeasured};
+ghost use Rattle.lt_solve.specs.Systems.{IsSolution};
+ghost use Rattle.lt_cover.specs.Gram.{IsMeasured, gram};
 ghost use Rattle.lt_cover.specs.Covers.{IsRadius};
 
 use crate::columns::{products, values};
 use lt_lattice::Form;
 use lt_num::Fraction;
-use lt_solve::{Columns, solve};
+use lt_solve::{Columns, Solution, solve};
 use lt_triang::Class;
 
 /// The sum of the products of equal places.
@@ -42,6 +44,19 @@ fn half(twice: i128, den: i128) -> Fraction
     }
 }
 
+/// The numbers with which the vertices but the first, whose values these are, combine to the circumcentre.
+fn combination(q: &Form, class: &Class, values: &[i64]) -> Solution
+    requires measured { IsMeasured (length class.now - 1) q.now class.now }
+    requires values { values.now ≡ map (form.value q.now) (drop 1 class.now) }
+    ensures { IsSolution (gram q.now (drop 1 class.now)) values.now result.den result.nums.items }
+{
+    let columns = Columns::of(class.dimension(), products(q, class).as_slice());
+    match solve(&columns, values) {
+        Ok(solution) => solution,
+        Err(_) => unreachable!(),
+    }
+}
+
 /// The squared circumradius of the class. The circumcentre is a combination of the vertices with the numbers of a solution, so the
 /// squared circumradius is half the sum of these numbers times the values of the form at the vertices.
 pub fn radius_of(q: &Form, class: &Class) -> Fraction
@@ -49,12 +64,9 @@ pub fn radius_of(q: &Form, class: &Class) -> Fraction
     ensures { IsRadius (length class.now - 1) q.now class.now result }
 {
     let values = values(q, class);
-    let columns = Columns::of(class.dimension(), products(q, class).as_slice());
-    match solve(&columns, values.as_slice()) {
-        Ok(solution) => half(
-            weighted(solution.nums.as_slice(), values.as_slice()),
-            solution.den,
-        ),
-        Err(_) => unreachable!(),
-    }
+    let solution = combination(q, class, values.as_slice());
+    half(
+        weighted(solution.nums.as_slice(), values.as_slice()),
+        solution.den,
+    )
 }

@@ -1,4 +1,4 @@
-use Rattle.std.proofs.Common.{◌≡◌, ◌≤◌, ◌≤ℤ◌, ◌-◌, ◌∙◌, ap, ap₂, arith, subst, sym, ℤ, pos, List, length, get_or, [], nat_abs}
+use Rattle.std.proofs.Common.{◌≡◌, ◌≤◌, ◌-◌, arith, length, get_or, [], nat_abs}
 use Rattle.std.proofs.lemmas.Int.{ints}
 use Rattle.lt_model.specs.Vectors.{minus}
 use Rattle.lt_model.specs.Forms.{value}

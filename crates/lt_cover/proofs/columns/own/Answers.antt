@@ -1,4 +1,4 @@
-use Rattle.std.proofs.Common.{◌≡◌, ◌≤◌, ◌-◌, arith, length, nat_abs}
+use Rattle.std.proofs.Common.{◌≤◌, ◌-◌, arith, length, nat_abs}
 use Rattle.std.proofs.lemmas.Int.{ints}
 use Rattle.lt_cover.proofs.Measures.{from_first, some_vertex}
 use Rattle.lt_cover.proofs.Sums.{narrow}

@@ -1,4 +1,4 @@
-use Rattle.std.proofs.Common.{◌≡◌, ◌-◌, ◌+ℤ◌, ◌-ℤ◌, length}
+use Rattle.std.proofs.Common.{◌-◌, length}
 use Rattle.lt_cover.proofs.Measures.{product_is}
 use Rattle.lt_cover.proofs.Sums.{cast_three}
 use Rattle.lt_cover.proofs.columns.product.Goals as goal

@@ -1,4 +1,4 @@
-use Rattle.std.proofs.Common.{◌≡◌, ◌<◌, ◌-◌, ◌∙◌, ap, arith, length, map, drop, ℤ, List}
+use Rattle.std.proofs.Common.{◌<◌, ◌-◌, ◌∙◌, ap, arith, length, map, drop, ℤ, List}
 use Rattle.lt_model.proofs.Walk.{length-map}
 use Rattle.lt_model.specs.Flat.{flat}
 use Rattle.lt_model.specs.Forms.{polar}

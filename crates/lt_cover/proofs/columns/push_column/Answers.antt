@@ -1,4 +1,4 @@
-use Rattle.std.proofs.Common.{◌≡◌, ◌<◌, ap, arith, length, get_or, [], ℤ, List}
+use Rattle.std.proofs.Common.{◌<◌, ap, arith, length, get_or, [], ℤ, List}
 use Rattle.lt_model.specs.Forms.{polar}
 use Rattle.lt_cover.proofs.Loops.{room_left}
 use Rattle.lt_cover.proofs.columns.push_column.Goals as goal

@@ -1,4 +1,4 @@
-use Rattle.std.proofs.Common.{◌≡◌, ◌<◌, ap, arith, length, ℤ, List}
+use Rattle.std.proofs.Common.{◌<◌, ap, arith, length, ℤ, List}
 use Rattle.lt_model.specs.Forms.{value}
 use Rattle.lt_cover.proofs.Loops.{few_left}
 use Rattle.lt_cover.proofs.columns.values.Goals as goal

@@ -1,40 +1,60 @@
-use Rattle.std.proofs.Common.{◌≡◌, ◌-◌, ◌*◌, ◌<◌, ◌^◌, ◌∙◌, ap, arith, sym, subst, ℕ, ℤ, List, length, map, drop, nat_abs}
+use Rattle.std.proofs.Common.{◌≡◌, ◌-◌, ◌<◌, ◌^◌, ◌∙◌, ◌∷◌, arith, rules, sym, ℤ, List, length, drop, nat_abs}
+use mir.Syntax.{w128}
+use mir.Val.{SFits, to_z, of_z}
+use Rattle.std.proofs.lemmas.Int.{to_z-of_z}
+use Rattle.std.specs.List.{All}
 use Rattle.std.proofs.lemmas.List.Elements.{All-head, All-tail}
 use Rattle.lt_model.proofs.Walk.{length-map}
-use Rattle.lt_model.specs.Flat.{flat}
 use Rattle.lt_model.specs.Forms.{value}
-use Rattle.lt_solve.specs.Systems.{IsSolution, IsColumnDependency}
-use Rattle.lt_cover.specs.Gram.{gram}
-use Rattle.lt_cover.proofs.Centres.{length-gram, solved, no_dependency}
-use Rattle.lt_cover.proofs.Systems.{gram_chunks, gram_square, gram_small, length-columns, values_small, values_within}
-use Rattle.lt_cover.proofs.radii.radius_of.Goals.{After-as_slice, After-as_slice-2}
+use Rattle.lt_lattice.specs.Ranges.{IsBelow}
+use Rattle.lt_cover.proofs.Centres.{length-gram, solved}
+use Rattle.lt_cover.proofs.Systems.{length-columns, values_within}
+use Rattle.lt_cover.proofs.Sums.{wide}
 use Rattle.lt_cover.proofs.radii.radius_of.Goals as goal
 
-same : (c : After-as_slice) → c.dimension.result ≡ length c.args.class.now - 1
-same c = omega (arith, c.dimension.ensures.class.simplex.count)
+pub combination-solution-requires-clause-values : goal.combination-solution-requires-clause-values
+combination-solution-requires-clause-values c = c.as_slice.ensures.value ∙ c.values-values.ensures
 
-items : (c : After-as_slice) → c.as_slice.result.now ≡ flat (gram c.args.q.now (drop 1 c.args.class.now))
-items c = c.as_slice.ensures.value ∙ c.products.ensures
+pub weighted-requires-clause-same : goal.weighted-requires-clause-same
+weighted-requires-clause-same c =
+    let q = c.args.q.now in
+    let vs = drop 1 c.args.class.now in
+    rw (c.as_slice-3.ensures.value ∙ c.values-values.ensures, c.as_slice-2.ensures.value) (c.combination-solution.ensures.one_each ∙ length-gram q vs vs ∙ sym (length-map (value q) vs))
 
-pub of-columns-requires-clause-square : goal.of-columns-requires-clause-square
-of-columns-requires-clause-square c = rw (items c, same c) (gram_square (length c.args.class.now - 1) c.args.q.now c.args.class.now c.requires)
+pub weighted-requires-clause-few : goal.weighted-requires-clause-few
+weighted-requires-clause-few c =
+    let s = c.args.class.now in
+    let e = c.combination-solution.ensures.one_each ∙ length-columns (length s - 1) c.args.q.now s c.requires in
+    rw c.as_slice-2.ensures.value (omega (arith, e, c.requires.high))
 
-pub of-columns-requires-clause-small : goal.of-columns-requires-clause-small
-of-columns-requires-clause-small c = rw (items c, same c) (gram_small (length c.args.class.now - 1) c.args.q.now c.args.class.now c.requires)
+pub weighted-requires-clause-below : goal.weighted-requires-clause-below
+weighted-requires-clause-below c =
+    rw c.as_slice-2.ensures.value (All-tail (IsBelow (2 ^ 56)) c.combination-solution.result.den c.combination-solution.result.nums.items c.combination-solution.ensures.below)
 
-vals : (c : After-as_slice-2) → c.as_slice-2.result.now ≡ map (value c.args.q.now) (drop 1 c.args.class.now)
-vals c = c.as_slice-2.ensures.value ∙ c.values-values.ensures
+pub weighted-requires-clause-within : goal.weighted-requires-clause-within
+weighted-requires-clause-within c = rw (c.as_slice-3.ensures.value ∙ c.values-values.ensures) (values_within (length c.args.class.now - 1) c.args.q.now c.args.class.now c.requires)
 
-cols : (c : After-as_slice-2) → c.of-columns.result ≡ gram c.args.q.now (drop 1 c.args.class.now)
-cols c =
-    let m : c.as_slice.result.now ≡ flat (gram c.args.q.now (drop 1 c.args.class.now)) = c.as_slice.ensures.value ∙ c.products.ensures in
-    let n : c.dimension.result ≡ length c.args.class.now - 1 = omega (arith, c.dimension.ensures.class.simplex.count) in
-    let e = rw (m, n) at c.of-columns.ensures in
-    e ∙ gram_chunks (length c.args.class.now - 1) c.args.q.now c.args.class.now c.requires
+-- the denominator is below 2^56, so it keeps its value
+small_den : (den : ℤ) (nums : List ℤ) → All (IsBelow (2 ^ 56)) (den ∷ nums) → nat_abs den < 2 ^ 56
+small_den den nums h = All-head (IsBelow (2 ^ 56)) den nums h
 
-pub solve-requires-clause-same : goal.solve-requires-clause-same
-solve-requires-clause-same c = rw (vals c, cols c) (length-map (value c.args.q.now) (drop 1 c.args.class.now) ∙ sym (length-gram c.args.q.now (drop 1 c.args.class.now) (drop 1 c.args.class.now)))
+kept_den : (den : ℤ) (nums : List ℤ) → All (IsBelow (2 ^ 56)) (den ∷ nums) → to_z w128 (of_z w128 den) ≡ den
+kept_den den nums h = let l = small_den den nums h in wide den (omega (arith, l))
 
-pub solve-requires-clause-small : goal.solve-requires-clause-small
-solve-requires-clause-small c = rw (vals c, cols c, length-columns (length c.args.class.now - 1) c.args.q.now c.args.class.now c.requires) (values_small (length c.args.class.now - 1) c.args.q.now c.args.class.now c.requires)
+pub half-requires-clause-small : goal.half-requires-clause-small
+half-requires-clause-small c =
+    let b = c.combination-solution.ensures.below in
+    rw (kept_den c.combination-solution.result.den c.combination-solution.result.nums.items b) (small_den c.combination-solution.result.den c.combination-solution.result.nums.items b)
 
+pub returns : goal.returns
+returns c =
+    let q = c.args.q.now in
+    let s = c.args.class.now in
+    let den = c.combination-solution.result.den in
+    let nums = c.combination-solution.result.nums.items in
+    let first = c.as_slice.ensures.value ∙ c.values-values.ensures in
+    let again = c.as_slice-3.ensures.value ∙ c.values-values.ensures in
+    let sum = rw (c.as_slice-2.ensures.value, again) at c.weighted.ensures in
+    let fits : SFits w128 c.weighted.result = search rules in
+    let quotient = rw (to_z-of_z w128 c.weighted.result fits, kept_den den nums c.combination-solution.ensures.below, sum) at c.half.ensures in
+    solved (length s - 1) q s c.requires den nums c.half.result (rw first at c.combination-solution.ensures) quotient
