@@ -6,4 +6,4 @@ mod Sums
 mod Best
 mod Longest
 mod Covering
-pub mod Members
+mod Members
