@@ -1,0 +1,9 @@
+mod Measures
+mod Centres
+mod Systems
+mod Loops
+mod Sums
+mod Best
+mod Longest
+mod Covering
+mod Members

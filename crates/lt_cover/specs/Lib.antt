@@ -1,0 +1,4 @@
+pub mod Gram
+pub mod Covers
+pub mod Long
+pub mod Laws
