@@ -1,10 +1,9 @@
 -- The last loop: what is settled stays settled, and each step settles one position more.
-use Rattle.std.proofs.Common.{◌≡◌, ◌≢◌, ℕ, zero, suc, ◌+◌, ◌<◌, ◌≤◌, refl, arith, sym, ap, ◌∙◌, subst, inl, inr, List, [], ◌∷◌, ◌++◌, length, ◌⊎◌, length-append}
+use Rattle.std.proofs.Common.{◌≡◌, ◌≢◌, ℕ, suc, ◌+◌, ◌<◌, ◌≤◌, refl, arith, sym, ap, ◌∙◌, subst, inl, inr, List, [], ◌∷◌, length, ◌⊎◌, length-append}
 use Rattle.std.proofs.lemmas.List.{get_or_at, get_or_append_left}
 use Rattle.std.proofs.lemmas.Bool.{cases_lt}
 use Rattle.lt_model.specs.Walls.{IsAcross}
-use Rattle.lt_model.specs.Matrices.{identity}
-use Rattle.lt_model.specs.Atlases.{Mark, open_mark, cross, wide, heavy, Entry, Event, Atlas, no_event, facets, mark_at, place_at, event_at, push, grow, cut, begin, places_from}
+use Rattle.lt_model.specs.Atlases.{open_mark, cross, wide, heavy, Event, Atlas, no_event, facets, mark_at, place_at, event_at, push, grow, cut, begin, places_from}
 use Rattle.lt_model.specs.RightAtlases.{IsOpenAt}
 use Rattle.lt_model.specs.Logs.{IsLegal, IsKept}
 use Rattle.lt_core.specs.Candidates.{candidate}

@@ -3,12 +3,14 @@
 ghost use Rattle.std.specs.Prelude.{◌≡◌, ◌<◌, ◌+◌, false, true};
 ghost use Rattle.std.specs.Result.{IfOk};
 ghost use Rattle.std.specs.Option.{IfSome};
+ghost use Rattle.lt_model.specs.Cones.{IsRightCone};
+ghost use Rattle.lt_cone.specs.Errors.{IsHeavyCone};
+ghost use Rattle.lt_cone.specs.declared.error.ConeError.TheVariants.{Heavy};
 ghost use Rattle.lt_match.specs.Matches.{IsFirstMatch};
 ghost use Rattle.lt_triang.specs.Kept.{dimension_of, IsOfSomeForm};
 ghost use Rattle.lt_core.specs.Marks.{matrix_rows};
 ghost use Rattle.std.specs.Arc.{arc_value};
 ghost use Rattle.lt_crew.specs.Tasks.{IsTask, IsBeyond, IsTest};
-ghost use Rattle.lt_crew.specs.Orders.{IsBack};
 
 use crate::desk::{Answer, Refused, Task, Test};
 use crate::gate::Gate;
@@ -17,6 +19,7 @@ use lt_colour::fingerprint;
 use lt_cone::{ConeError, cone};
 use lt_flip::{FlipError, flip};
 use lt_lattice::Matrix;
+use lt_lp::Cone;
 use lt_match::match_types;
 use lt_model::Memory;
 use lt_triang::Triangulation;
@@ -92,57 +95,105 @@ pub fn shared_copy(alloc: Global, t: &Triangulation) -> Result<Arc<Triangulation
     }
 }
 
-/// How an attempt to enter what lies beyond a facet ends.
-#[derive(Drop)]
-pub enum Entered {
-    /// So does the crossing.
-    Ended(Crossed),
-    /// Entries came in between, and the triangulation is handed back.
-    Again(Triangulation),
+/// Records the entry onto which what lies beyond a facet is carried, where there is one up to the number that is then tested.
+fn record_known<L: Ledger, R: Wait>(
+    rt: &R,
+    alloc: Global,
+    room: &Room<L>,
+    position: u64,
+    task: &Task,
+    beyond: &Triangulation,
+    test: &mut Test,
+    share: &mut Share<L>,
+) -> Result<Option<Crossed>, Memory>
+    requires part { 0 < share.old.parts }
+    requires beyond { IsBeyond task.now beyond.now }
+    requires test { IsTest beyond.now test.old }
+    ensures kept { IsTest beyond.now test.new }
+    ensures parts { share.new.parts ≡ share.old.parts }
+{
+    match seek(rt, alloc, room, beyond, test)? {
+        None => Ok(None),
+        Some((k, image, matrix)) => Ok(Some(crossing_end(room.cross(
+            rt, position, task, k, &image, matrix, share,
+        ))?)),
+    }
 }
 
-/// Records what lies beyond a facet, and is like no entry that was compared with it: as a new entry, or as too heavy.
-fn enter<L: Ledger, R: Wait>(
+/// Records what lies beyond a facet, and is like no entry that was compared with it, as a new entry, or as the entry that came in between.
+/// The cone is made once, however many entries come.
+fn record_new<L: Ledger, R: Wait>(
     rt: &R,
     alloc: Global,
     room: &Room<L>,
     position: u64,
     task: &Task,
     beyond: Triangulation,
-    test: &Test,
+    cone: Cone,
+    test: &mut Test,
     share: &mut Share<L>,
-) -> Result<Entered, Memory>
+) -> Result<Crossed, Memory>
     requires part { 0 < share.old.parts }
     requires beyond { IsBeyond task.now beyond }
-    requires tested { IsTest beyond test.now }
-    ensures parts { share.new.parts ≡ share.old.parts }
-    ensures back { IfOk result (IsBack beyond) }
+    requires cone { IsRightCone (dimension_of beyond) beyond cone }
+    requires tested { IsTest beyond test.old }
+    ensures { share.new.parts ≡ share.old.parts }
 {
-    let cone = match cone(alloc, &beyond) {
-        Ok(cone) => cone,
-        Err(ConeError::Heavy { weight }) => {
-            return match room.weigh(rt, position, task, &beyond, weight, test, share) {
-                Answer::Again => Ok(Entered::Again(beyond)),
-                answer => Ok(Entered::Ended(crossing_end(answer)?)),
-            };
-        }
-        Err(ConeError::Memory) => return Err(Memory),
-    };
-    let copy = shared_copy(alloc, &beyond)?;
-    match room.grow(rt, position, task, beyond, copy, cone, test, share) {
-        Ok(()) => Ok(Entered::Ended(Crossed::Recorded)),
-        Err(refused) => {
-            let Refused {
-                answer,
-                beyond: back,
-                cone: _,
-            } = refused;
-            match answer {
-                Answer::Again => Ok(Entered::Again(back)),
-                answer => Ok(Entered::Ended(crossing_end(answer)?)),
+    let mut beyond = beyond;
+    let mut cone = cone;
+    'tests: for _ in rt.forever() {
+        let copy = shared_copy(alloc, &beyond)?;
+        match room.grow(rt, position, task, beyond, copy, cone, test, share) {
+            Ok(()) => return Ok(Crossed::Recorded),
+            Err(
+                Refused {
+                    answer: Answer::Again,
+                    beyond: back,
+                    cone: same,
+                },
+            ) => {
+                beyond = back;
+                cone = same;
             }
+            Err(refused) => return crossing_end(refused.answer),
+        }
+        match record_known(rt, alloc, room, position, task, &beyond, test, share)? {
+            Some(crossed) => return Ok(crossed),
+            None => {}
         }
     }
+    unreachable!()
+}
+
+/// Records that what lies beyond a facet, and is like no entry that was compared with it, is too heavy, or the entry that came in between.
+fn record_heavy<L: Ledger, R: Wait>(
+    rt: &R,
+    alloc: Global,
+    room: &Room<L>,
+    position: u64,
+    task: &Task,
+    beyond: &Triangulation,
+    weight: i128,
+    test: &mut Test,
+    share: &mut Share<L>,
+) -> Result<Crossed, Memory>
+    requires part { 0 < share.old.parts }
+    requires beyond { IsBeyond task.now beyond.now }
+    requires heavy { IsHeavyCone (dimension_of beyond.now) beyond.now (Heavy weight) }
+    requires tested { IsTest beyond.now test.old }
+    ensures { share.new.parts ≡ share.old.parts }
+{
+    'tests: for _ in rt.forever() {
+        match room.weigh(rt, position, task, beyond, weight, test, share) {
+            Answer::Again => {}
+            answer => return crossing_end(answer),
+        }
+        match record_known(rt, alloc, room, position, task, beyond, test, share)? {
+            Some(crossed) => return Ok(crossed),
+            None => {}
+        }
+    }
+    unreachable!()
 }
 
 /// Records what lies beyond a facet: the entry onto which it is carried, or itself.
@@ -159,22 +210,24 @@ fn record<L: Ledger, R: Wait>(
     requires beyond { IsBeyond task.now beyond }
     ensures { share.new.parts ≡ share.old.parts }
 {
-    let mut beyond = beyond;
     let mut test = Test {
         print: fingerprint(alloc, &beyond)?,
         known: Vec::new(alloc),
         tested: 0,
     };
-    'tests: for _ in rt.forever() {
-        if let Some((k, image, matrix)) = seek(rt, alloc, room, &beyond, &mut test)? {
-            return crossing_end(room.cross(rt, position, task, k, &image, matrix, share));
-        }
-        match enter(rt, alloc, room, position, task, beyond, &test, share)? {
-            Entered::Ended(crossed) => return Ok(crossed),
-            Entered::Again(back) => beyond = back,
-        }
+    match record_known(rt, alloc, room, position, task, &beyond, &mut test, share)? {
+        Some(crossed) => return Ok(crossed),
+        None => {}
     }
-    unreachable!()
+    match cone(alloc, &beyond) {
+        Ok(cone) => record_new(
+            rt, alloc, room, position, task, beyond, cone, &mut test, share,
+        ),
+        Err(ConeError::Heavy { weight }) => record_heavy(
+            rt, alloc, room, position, task, &beyond, weight, &mut test, share,
+        ),
+        Err(ConeError::Memory) => Err(Memory),
+    }
 }
 
 /// Crosses the facet of a task, and records what lies beyond.

@@ -169,7 +169,7 @@ impl<L: Ledger> Room<L> {
         requires beyond { IsBeyond task.now beyond }
         requires cone { IsRightCone (dimension_of beyond) beyond cone }
         requires tested { IsTest beyond test.now }
-        ensures back { IfErr result (λ b. b.beyond ≡ beyond) }
+        ensures back { IfErr result (λ b. (b.beyond ≡ beyond) × (b.cone ≡ cone)) }
         ensures parts { share.new.parts ≡ share.old.parts }
     {
         let grown = self

@@ -4,7 +4,7 @@ use Rattle.std.specs.Option.{unwrap_or}
 use Rattle.std.specs.Fmt.{decimal}
 use Rattle.lt_model.specs.Limits.{step_limit}
 use Rattle.lt_words.specs.declared.words.Command.{Command}
-use Rattle.lt_words.specs.declared.words.Command.TheVariants.{Principal, Summary, Check, Run, Drill}
+use Rattle.lt_words.specs.declared.words.Command.TheVariants.{Run}
 use Rattle.lt_words.specs.declared.options.Setting.{Setting}
 use Rattle.lt_words.specs.declared.options.Setting.TheVariants.{Workers, Steps}
 use Rattle.lt_words.specs.declared.options.Options.{Options}
@@ -30,10 +30,7 @@ missing_dimension o due none (Run d w s r) rest =
     let (items, m, f) = subst (λ u. IsRestBy u o (Run d w s r) []) due rest in
     let e : [] ≡ d ∷ [] = sym (ap dimensions (no_items items m)) ∙ ap (λ k. listed k ++ dimensions items) (sym none) ∙ f.one_dimension in
     cc
-missing_dimension o due none (Principal d) rest = (subst (λ u. IsRestBy u o (Principal d) []) due rest).2
-missing_dimension o due none (Summary d r) rest = (subst (λ u. IsRestBy u o (Summary d r) []) due rest).2
-missing_dimension o due none (Check d) rest = (subst (λ u. IsRestBy u o (Check d) []) due rest).2
-missing_dimension o due none (Drill d s l) rest = (subst (λ u. IsRestBy u o (Drill d s l) []) due rest).2
+missing_dimension o due none c rest = (subst (λ u. IsRestBy u o c []) due rest).2
 
 -- ---- what supplies it
 

@@ -2,7 +2,7 @@
 use Rattle.std.proofs.Common.{◌≡◌, ℕ, Bool, true, false, List, ◌∷◌, ◌↔◌, Option, Some, None, refl, sym, ap, ◌∙◌, subst}
 use Rattle.std.specs.Fmt.{decimal}
 use Rattle.lt_words.specs.declared.words.Command.{Command}
-use Rattle.lt_words.specs.declared.words.Command.TheVariants.{Principal, Summary, Check, Run, Drill}
+use Rattle.lt_words.specs.declared.words.Command.TheVariants.{Run, Drill}
 use Rattle.lt_words.specs.declared.options.Setting.{Setting}
 use Rattle.lt_words.specs.declared.options.Part.{Part}
 use Rattle.lt_words.specs.declared.options.Part.TheVariants.{Dimension, Resume, Ending, Named, Joined}
@@ -57,14 +57,12 @@ goes_joined o next p s n is none r none_next takes =
 
 -- a setting whose number is due changes nothing else
 same_complete : (o : Options) (s : Setting) (c : Command) (items : List Item) → Complete o c items ↔ Complete (record o { due = Some s }) c items
-same_complete o s (Principal d) items = (λ f. f, λ f. f)
-same_complete o s (Summary d r) items = (λ f. f, λ f. f)
-same_complete o s (Check d) items = (λ f. f, λ f. f)
 same_complete o s (Drill d seed l) items = (λ f. f, λ f. f)
 same_complete o s (Run d w t r) items = (
   λ f. record { one_dimension = f.one_dimension; chosen_workers = f.chosen_workers; chosen_steps = f.chosen_steps; few = f.few; resumed = f.resumed; last = f.last },
   λ f. record { one_dimension = f.one_dimension; chosen_workers = f.chosen_workers; chosen_steps = f.chosen_steps; few = f.few; resumed = f.resumed; last = f.last },
 )
+same_complete o s _ items = (λ f. f, λ f. f)
 
 pub goes_named : (o : Options) (p : Part) (s : Setting) → p ≡ Named s → o.due ≡ None → GoesTo o (part_word p) (record o { due = Some s })
 goes_named o p s is none = subst (λ q. GoesTo o (part_word q) (record o { due = Some s })) (sym is)

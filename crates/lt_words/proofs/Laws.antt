@@ -1,13 +1,16 @@
 -- Words have a fault at one place at most, and are one command at most.
-use Rattle.std.proofs.Common.{◌≡◌, ℕ, ◌+◌, ◌<◌, ◌≤◌, Bool, true, false, List, [], ◌∷◌, ◌++◌, take, drop, codes, refl, inl, inr, sym, ap, subst, ◌∙◌, arith, append_assoc}
+use Rattle.std.proofs.Common.{◌≡◌, ℕ, suc, ℤ, map, ◌+◌, ◌<◌, ◌≤◌, Bool, true, false, List, [], ◌∷◌, ◌++◌, take, drop, codes, refl, inl, inr, sym, ap, subst, ◌∙◌, arith, append_assoc}
 use Rattle.std.proofs.lemmas.List.{take-append-drop, take-take}
 use Rattle.std.proofs.lemmas.Fmt.{decimal_injective}
-use Rattle.std.specs.Fmt.{decimal}
+use Rattle.std.specs.Fmt.{decimal, signed_decimal}
+use Rattle.std.specs.List.{All}
+use Rattle.lt_lattice.specs.Ranges.{IsWithin}
+use Rattle.lt_scan.proofs.Numerals.{one_spelling}
 use Rattle.lt_words.specs.declared.words.Command.{Command}
-use Rattle.lt_words.specs.declared.words.Command.TheVariants.{Principal, Summary, Check, Run, Drill}
+use Rattle.lt_words.specs.declared.words.Command.TheVariants.{Principal, Summary, Check, Run, Drill, Locate, Cover, Relevant, Shortest, Merge}
 use Rattle.lt_words.specs.declared.options.Setting.TheVariants.{Workers, Steps}
 use Rattle.lt_words.specs.declared.options.Part.TheVariants.{Dimension, Resume, Ending, Named, Joined}
-use Rattle.lt_words.specs.Grammar.{InRange, Item, dimension, setting, resuming, ending, setting_word, AreSpellings, numbers, times, IsChosen, MakeRun, Spells, Begins, FaultAt}
+use Rattle.lt_words.specs.Grammar.{InRange, Item, dimension, setting, resuming, ending, setting_word, AreSpellings, numbers, times, IsChosen, MakeRun, SpellsForm, Spells, Begins, FaultAt, most_crossings, most_of_form}
 use Rattle.lt_words.specs.Parts.{part_word}
 use Rattle.lt_model.specs.Limits.{step_limit}
 use Rattle.lt_words.proofs.Decimals.{same_dimension}
@@ -84,6 +87,25 @@ same_runs d e w v s t r q ws (rest, items, f, m, made) (later, others, g, n, don
     let list = one_list items others rest m (subst (AreSpellings others) same n) in
     one_run d e w v s t r q others (subst (MakeRun d w s r) list made) done
 
+-- numbers have different words
+same_integers : (xs ys : List ℤ) → All (IsWithin most_of_form) xs → All (IsWithin most_of_form) ys → map signed_decimal xs ≡ map signed_decimal ys → xs ≡ ys
+same_integers [] [] small tiny e = refl
+same_integers [] (y ∷ ys) small tiny e = absurd (cc)
+same_integers (x ∷ xs) [] small tiny e = absurd (cc)
+same_integers (x ∷ xs) (y ∷ ys) small tiny e =
+    let here = small 0 x (omega arith) in
+    let there = tiny 0 y (omega arith) in
+    let first : x ≡ y = one_spelling x y (omega (arith, here)) (omega (arith, there)) (cc) in
+    let rest : xs ≡ ys = same_integers xs ys (λ k d lt. small (suc k) d (omega (arith, lt))) (λ k d lt. tiny (suc k) d (omega (arith, lt))) (cc) in
+    cc
+
+-- so the words of a command on a form are those of one number of crossings and one form
+same_form : (w : List ℕ) (s t : ℕ) (x y : List ℤ) (ws : List (List ℕ)) → s ≤ most_crossings → t ≤ most_crossings → All (IsWithin most_of_form) x → All (IsWithin most_of_form) y → SpellsForm w s x ws → SpellsForm w t y ws → (s ≡ t) × (x ≡ y)
+same_form w s t x y ws few less small tiny f g =
+    let e = f.words in
+    let h = g.words in
+    (decimal_injective s t (omega (arith, few)) (omega (arith, less)) (cc), same_integers x y small tiny (cc))
+
 same_commands : (c c' : Command) (ws : List (List ℕ)) → kind_of c ≡ kind_of c' → InRange c → InRange c' → Spells c ws → Spells c' ws → c ≡ c'
 same_commands (Principal d) (Principal e) ws k r q f g = ap (λ n. Principal n) (same_dimension d e r q (cc))
 same_commands (Check d) (Check e) ws k r q f g = ap (λ n. Check n) (same_dimension d e r q (cc))
@@ -97,6 +119,17 @@ same_commands (Drill d s l) (Drill e t m) ws k (r, below, few) (q, under, less) 
     let seeds : s ≡ t = decimal_injective s t below under (cc) in
     let turns : l ≡ m = decimal_injective l m (omega (arith, few, few_turns d)) (omega (arith, less, few_turns e)) (cc) in
     cc
+same_commands (Locate s x) (Locate t y) ws k (few, small) (less, tiny) f g =
+    let (steps, forms) = same_form (codes "locate") s t x y ws few less small tiny f g in cc
+same_commands (Cover s x) (Cover t y) ws k (few, small) (less, tiny) f g =
+    let (steps, forms) = same_form (codes "cover") s t x y ws few less small tiny f g in cc
+same_commands (Relevant d i) (Relevant e j) ws k (r, few) (q, less) f g =
+    let dimensions : d ≡ e = same_dimension d e r q (cc) in
+    let entries : i ≡ j = decimal_injective i j (omega (arith, few)) (omega (arith, less)) (cc) in
+    cc
+same_commands (Shortest s x) (Shortest t y) ws k (few, small) (less, tiny) f g =
+    let (steps, forms) = same_form (codes "shortest") s t x y ws few less small tiny f g in cc
+same_commands (Merge d) (Merge e) ws k r q f g = ap (λ n. Merge n) (same_dimension d e r q (cc))
 same_commands _ _ ws k r q f g = absurd (cc)
 
 -- words spell one command at most

@@ -1,5 +1,7 @@
+pub mod Alone
 pub mod Decimals
 pub mod Ends
+pub mod FormWords
 pub mod Fronts
 pub mod Goings
 pub mod Joins

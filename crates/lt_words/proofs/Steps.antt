@@ -2,7 +2,7 @@
 use Rattle.std.proofs.Common.{◌≡◌, ℕ, ◌≤◌, Bool, true, false, List, [], ◌∷◌, ◌++◌, ◌⊎◌, ◌↔◌, inl, inr, Option, Some, None, IfSome, refl, sym, ap, ◌∙◌, subst, arith}
 use Rattle.lt_model.specs.Limits.{step_limit}
 use Rattle.lt_words.specs.declared.words.Command.{Command}
-use Rattle.lt_words.specs.declared.words.Command.TheVariants.{Principal, Summary, Check, Run, Drill}
+use Rattle.lt_words.specs.declared.words.Command.TheVariants.{Run}
 use Rattle.lt_words.specs.declared.options.Setting.{Setting}
 use Rattle.lt_words.specs.declared.options.Setting.TheVariants.{Workers, Steps}
 use Rattle.lt_words.specs.declared.options.Options.{Options}
@@ -58,10 +58,6 @@ dimension_last false x d items e h = ended_more (dimension x) items (λ f. cc) h
 
 -- the dimension
 pub takes_dimension : (o : Options) (x : ℕ) → o.d ≡ None → (c : Command) (items : List Item) → Complete o c (dimension x ∷ items) ↔ Complete (with_dimension o x) c items
-takes_dimension o x none (Principal d) items = (λ f. f, λ f. f)
-takes_dimension o x none (Summary d r) items = (λ f. f, λ f. f)
-takes_dimension o x none (Check d) items = (λ f. f, λ f. f)
-takes_dimension o x none (Drill d s l) items = (λ f. f, λ f. f)
 takes_dimension o x none (Run d w s r) items = (
   λ f. record {
     one_dimension = ap (λ m. listed m ++ x ∷ dimensions items) (sym none) ∙ f.one_dimension;
@@ -80,14 +76,12 @@ takes_dimension o x none (Run d w s r) items = (
     last = dimension_last o.ended x d items g.one_dimension g.last;
   },
 )
+takes_dimension o x none _ items = (λ f. f, λ f. f)
 
 -- a second one
 pub one_dimension_alone : (o : Options) (x y : ℕ) → o.d ≡ Some y → (c : Command) (items : List Item) → Complete o c (dimension x ∷ items) → ⊥
 one_dimension_alone o x y some (Run d w s r) items f = let e : y ∷ x ∷ dimensions items ≡ d ∷ [] = ap (λ m. listed m ++ x ∷ dimensions items) (sym some) ∙ f.one_dimension in cc
-one_dimension_alone o x y some (Principal d) items f = f
-one_dimension_alone o x y some (Summary d r) items f = f
-one_dimension_alone o x y some (Check d) items f = f
-one_dimension_alone o x y some (Drill d s l) items f = f
+one_dimension_alone o x y some _ items f = f
 
 at_most_one : (r : Bool) → times r ≤ 1
 at_most_one true = omega arith
@@ -101,10 +95,6 @@ last_more o i items on other h = subst (λ b. AreLast b (i ∷ items)) (sym on) 
 
 -- `--resume`
 pub takes_resuming : (o : Options) → o.resume ≡ false → o.ended ≡ false → (c : Command) (items : List Item) → Complete o c (resuming ∷ items) ↔ Complete (record o { resume = true }) c items
-takes_resuming o none on (Principal d) items = (λ f. f, λ f. f)
-takes_resuming o none on (Summary d r) items = (λ f. f, λ f. f)
-takes_resuming o none on (Check d) items = (λ f. f, λ f. f)
-takes_resuming o none on (Drill d s l) items = (λ f. f, λ f. f)
 takes_resuming o none on (Run d w s r) items =
     let zero : times o.resume ≡ 0 = ap times none in (
       λ f. record {
@@ -124,20 +114,14 @@ takes_resuming o none on (Run d w s r) items =
         last = last_more o resuming items on (λ e. cc) g.last;
       },
     )
+takes_resuming o none on _ items = (λ f. f, λ f. f)
 
 pub one_resuming_alone : (o : Options) → o.resume ≡ true → (c : Command) (items : List Item) → Complete o c (resuming ∷ items) → ⊥
 one_resuming_alone o some (Run d w s r) items f = let one : times o.resume ≡ 1 = ap times some in omega (arith, f.resumed, one, at_most_one r)
-one_resuming_alone o some (Principal d) items f = f
-one_resuming_alone o some (Summary d r) items f = f
-one_resuming_alone o some (Check d) items f = f
-one_resuming_alone o some (Drill d s l) items f = f
+one_resuming_alone o some _ items f = f
 
 -- `--`
 pub takes_ending : (o : Options) → o.ended ≡ false → (c : Command) (items : List Item) → Complete o c (ending ∷ items) ↔ Complete (record o { ended = true }) c items
-takes_ending o on (Principal d) items = (λ f. f, λ f. f)
-takes_ending o on (Summary d r) items = (λ f. f, λ f. f)
-takes_ending o on (Check d) items = (λ f. f, λ f. f)
-takes_ending o on (Drill d s l) items = (λ f. f, λ f. f)
 takes_ending o on (Run d w s r) items = (
   λ f. record {
     one_dimension = f.one_dimension;
@@ -156,14 +140,12 @@ takes_ending o on (Run d w s r) items = (
     last = subst (λ b. AreLast b (ending ∷ items)) (sym on) (here_ended items g.last);
   },
 )
+takes_ending o on _ items = (λ f. f, λ f. f)
 
 -- behind `--` stands nothing but a dimension
 pub nothing_else : (o : Options) (i : Item) → o.ended ≡ true → ((d : ℕ) → i ≡ dimension d → ⊥) → (c : Command) (items : List Item) → Complete o c (i ∷ items) → ⊥
 nothing_else o i ended other (Run d w s r) items f = only_dimension i items (subst (λ b. AreLast b (i ∷ items)) ended f.last) other
-nothing_else o i ended other (Principal d) items f = f
-nothing_else o i ended other (Summary d r) items f = f
-nothing_else o i ended other (Check d) items f = f
-nothing_else o i ended other (Drill d s l) items f = f
+nothing_else o i ended other _ items f = f
 
 -- ---- settings
 
@@ -175,14 +157,6 @@ first_chosen : (m : Option ℕ) (default n x : ℕ) (more : List ℕ) → m ≡ 
 first_chosen m default n x more none = let e : listed m ++ n ∷ more ≡ n ∷ more = ap (λ k. listed k ++ n ∷ more) none in (subst (λ l. IsChosen default l x) e, subst (λ l. IsChosen default l x) (sym e))
 
 pub takes_number : (o : Options) (t : Setting) (n : ℕ) → named o t ≡ None → o.ended ≡ false → (c : Command) (items : List Item) → Complete o c (setting t n ∷ items) ↔ Complete (with_number o t n) c items
-takes_number o Workers n none on (Principal d) items = (λ f. f, λ f. f)
-takes_number o Workers n none on (Summary d r) items = (λ f. f, λ f. f)
-takes_number o Workers n none on (Check d) items = (λ f. f, λ f. f)
-takes_number o Workers n none on (Drill d s l) items = (λ f. f, λ f. f)
-takes_number o Steps n none on (Principal d) items = (λ f. f, λ f. f)
-takes_number o Steps n none on (Summary d r) items = (λ f. f, λ f. f)
-takes_number o Steps n none on (Check d) items = (λ f. f, λ f. f)
-takes_number o Steps n none on (Drill d s l) items = (λ f. f, λ f. f)
 takes_number o Workers n none on (Run d w s r) items =
     let same = first_chosen o.workers 1 n w (numbers Workers items) none in (
       λ f. record {
@@ -221,6 +195,8 @@ takes_number o Steps n none on (Run d w s r) items =
         last = last_more o (setting Steps n) items on (λ e. cc) g.last;
       },
     )
+takes_number o Workers n none on _ items = (λ f. f, λ f. f)
+takes_number o Steps n none on _ items = (λ f. f, λ f. f)
 
 two_chosen : (m : Option ℕ) (default k n x : ℕ) (more : List ℕ) → m ≡ Some k → IsChosen default (listed m ++ n ∷ more) x → ⊥
 two_chosen m default k n x more some (inl e) = let f : k ∷ n ∷ more ≡ x ∷ [] = ap (λ l. listed l ++ n ∷ more) (sym some) ∙ e in cc
@@ -229,10 +205,7 @@ two_chosen m default k n x more some (inr e) = let f : k ∷ n ∷ more ≡ [] =
 pub one_number_alone : (o : Options) (t : Setting) (n k : ℕ) → named o t ≡ Some k → (c : Command) (items : List Item) → Complete o c (setting t n ∷ items) → ⊥
 one_number_alone o Workers n k some (Run d w s r) items f = two_chosen o.workers 1 k n w (numbers Workers items) some f.chosen_workers
 one_number_alone o Steps n k some (Run d w s r) items f = two_chosen o.steps (step_limit d) k n s (numbers Steps items) some f.chosen_steps
-one_number_alone o t n k some (Principal d) items f = f
-one_number_alone o t n k some (Summary d r) items f = f
-one_number_alone o t n k some (Check d) items f = f
-one_number_alone o t n k some (Drill d s l) items f = f
+one_number_alone o t n k some _ items f = f
 
 -- ---- the limit on steps
 
@@ -254,10 +227,7 @@ number_in_limit o Workers n c items f = tt
 number_in_limit o Steps n (Run d w s r) items f =
     let same = named_steps o.steps (step_limit d) n s (numbers Steps items) f.chosen_steps in
     named_dimension o.d d n (dimensions items) f.one_dimension (subst (λ z. z ≤ step_limit d) (sym same) f.few)
-number_in_limit o Steps n (Principal d) items f = absurd f
-number_in_limit o Steps n (Summary d r) items f = absurd f
-number_in_limit o Steps n (Check d) items f = absurd f
-number_in_limit o Steps n (Drill d s l) items f = absurd f
+number_in_limit o Steps n _ items f = absurd f
 
 leaves : (m : Option ℕ) (default d x : ℕ) (more : List ℕ) → IsChosen default (listed m ++ more) x → x ≤ step_limit d → IfSome m (λ n. n ≤ step_limit d)
 leaves None default d x more h few = tt
@@ -270,7 +240,4 @@ dimension_leaves_steps o x none (Run d w s r) items f =
     let first : x ∷ dimensions items ≡ d ∷ [] = ap (λ m. listed m ++ x ∷ dimensions items) (sym none) ∙ f.one_dimension in
     let same : x ≡ d = cc in
     leaves o.steps (step_limit d) x s (numbers Steps items) f.chosen_steps (subst (λ z. s ≤ step_limit z) (sym same) f.few)
-dimension_leaves_steps o x none (Principal d) items f = absurd f
-dimension_leaves_steps o x none (Summary d r) items f = absurd f
-dimension_leaves_steps o x none (Check d) items f = absurd f
-dimension_leaves_steps o x none (Drill d s l) items f = absurd f
+dimension_leaves_steps o x none _ items f = absurd f

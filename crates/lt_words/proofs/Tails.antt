@@ -1,18 +1,22 @@
 -- What stands behind the first word of a command but `run`, and where its faults are.
-use Rattle.std.proofs.Common.{◌≡◌, ℕ, ◌<◌, ◌≤◌, ◌^◌, Bool, true, false, cond, eqb, List, [], ◌∷◌, ◌++◌, ◌⊎◌, inl, inr, length, get_or, codes, Result, IfErr, refl, sym, ap, ◌∙◌, subst, arith, length-append}
+use Rattle.std.proofs.Common.{◌≡◌, ℕ, zero, suc, ℤ, pos, ◌+◌, ◌*◌, ◌<◌, ◌≤◌, ◌^◌, Bool, true, false, cond, eqb, List, [], ◌∷◌, ◌++◌, ◌⊎◌, inl, inr, length, map, get_or, codes, Result, IfErr, refl, sym, ap, ◌∙◌, subst, arith, length-append}
 use Rattle.std.proofs.lemmas.Bool.{cases_lt}
 use Rattle.std.proofs.lemmas.List.{get_or-map}
+use Rattle.std.proofs.lemmas.List.Elements.{All-from_get_or}
 use Rattle.std.proofs.lemmas.Result.{err_from_is_err_and}
 use Rattle.std.specs.Result.{IsErrAnd}
 use denote.Ref.{Bor}
-use Rattle.std.specs.Fmt.{decimal}
+use Rattle.std.specs.Fmt.{decimal, signed_decimal}
+use Rattle.std.specs.List.{All}
+use Rattle.lt_model.specs.Forms.{numbers_of_form}
+use Rattle.lt_lattice.specs.Ranges.{IsWithin}
 use Rattle.lt_words.specs.declared.words.Command.{Command}
-use Rattle.lt_words.specs.declared.words.Command.TheVariants.{Principal, Summary, Check, Run, Drill}
+use Rattle.lt_words.specs.declared.words.Command.TheVariants.{Principal, Summary, Check, Run, Drill, Locate, Cover, Relevant, Shortest, Merge}
 use Rattle.lt_words.specs.declared.words.WordsError.{WordsError}
 use Rattle.lt_words.specs.declared.words.WordsError.TheVariants.{Fault}
 use Rattle.lt_words.specs.declared.words.Kind.{Kind}
 use Rattle.lt_words.specs.declared.words.Kind.TheVariants as kind
-use Rattle.lt_words.specs.Grammar.{texts, place_of, most_turns, IsDimension, InRange, Spells, IsAccepted, FaultAt}
+use Rattle.lt_words.specs.Grammar.{texts, place_of, most_turns, most_crossings, most_of_form, most_entry, IsDimension, InRange, Spells, IsAccepted, FaultAt}
 use Rattle.lt_words.specs.Parts.{kind_word, HasFront, HasWord}
 use Rattle.lt_words.proofs.Decimals.{same_dimension}
 use Rattle.lt_words.proofs.Fronts.{begins, front_alone, longer, fault_at_end, fault_at_word}
@@ -25,6 +29,11 @@ kind_of (Summary d r) = kind.Summary
 kind_of (Check d) = kind.Check
 kind_of (Run d w s r) = kind.Run
 kind_of (Drill d s l) = kind.Drill
+kind_of (Locate s q) = kind.Locate
+kind_of (Cover s q) = kind.Cover
+kind_of (Relevant d e) = kind.Relevant
+kind_of (Shortest s q) = kind.Shortest
+kind_of (Merge d) = kind.Merge
 
 -- a command begins with the word of its kind
 pub first_word : (c : Command) (ws : List (List ℕ)) → Spells c ws → (rest : List (List ℕ)) × (ws ≡ kind_word (kind_of c) ∷ rest)
@@ -33,23 +42,42 @@ first_word (Summary d r) ws e = (decimal d ∷ cond r (codes "--resume" ∷ []) 
 first_word (Check d) ws e = (decimal d ∷ [], e)
 first_word (Run d w s r) ws (rest, items, e, m, made) = (rest, e)
 first_word (Drill d s l) ws e = (decimal d ∷ decimal s ∷ decimal l ∷ [], e)
+first_word (Locate s q) ws p = (decimal p.d ∷ decimal s ∷ map signed_decimal q, p.words)
+first_word (Cover s q) ws p = (decimal p.d ∷ decimal s ∷ map signed_decimal q, p.words)
+first_word (Relevant d k) ws e = (decimal d ∷ decimal k ∷ [], e)
+first_word (Shortest s q) ws p = (decimal p.d ∷ decimal s ∷ map signed_decimal q, p.words)
+first_word (Merge d) ws e = (decimal d ∷ [], e)
+
+-- a number that the first and the third byte of a word give
+key : List ℕ → ℕ
+key w = get_or w 0 0 + 3 * get_or w 2 0
 
 kind_at : ℕ → Kind
-kind_at n = cond (eqb n 112) kind.Principal (cond (eqb n 115) kind.Summary (cond (eqb n 99) kind.Check (cond (eqb n 100) kind.Drill kind.Run)))
+kind_at n = cond (eqb n 427) kind.Principal (cond (eqb n 442) kind.Summary (cond (eqb n 402) kind.Check (cond (eqb n 415) kind.Drill (cond (eqb n 405) kind.Locate (cond (eqb n 453) kind.Cover (cond (eqb n 438) kind.Relevant (cond (eqb n 448) kind.Shortest (cond (eqb n 451) kind.Merge kind.Run))))))))
 
-kind_again : (k : Kind) → kind_at (get_or (kind_word k) 0 0) ≡ k
-unfolding kind_at
+kind_again : (k : Kind) → kind_at (key (kind_word k)) ≡ k
+unfolding kind_at key
 kind_again kind.Principal = refl
 kind_again kind.Summary = refl
 kind_again kind.Check = refl
 kind_again kind.Run = refl
 kind_again kind.Drill = refl
+kind_again kind.Locate = refl
+kind_again kind.Cover = refl
+kind_again kind.Relevant = refl
+kind_again kind.Shortest = refl
+kind_again kind.Merge = refl
 
 -- kinds have different words
 pub same_kind : (k l : Kind) → kind_word k ≡ kind_word l → k ≡ l
-same_kind k l e = sym (kind_again k) ∙ ap (λ w. kind_at (get_or w 0 0)) e ∙ kind_again l
+same_kind k l e = sym (kind_again k) ∙ ap (λ w. kind_at (key w)) e ∙ kind_again l
 
 -- ---- shapes
+
+-- the number of crossings and the numbers of a form
+abbrev pub IsFormEnd : ℕ → List (List ℕ) → Type 0
+IsFormEnd d ts =
+    (s : ℕ) × (q : List ℤ) × (s ≤ most_crossings) × (length q ≡ numbers_of_form d) × All (IsWithin most_of_form) q × (ts ≡ decimal s ∷ map signed_decimal q)
 
 -- what stands behind the dimension
 abbrev pub IsEnd : ℕ → Kind → List (List ℕ) → Type 0
@@ -58,6 +86,11 @@ IsEnd d kind.Summary ts = (ts ≡ []) ⊎ (ts ≡ codes "--resume" ∷ [])
 IsEnd d kind.Check ts = ts ≡ []
 IsEnd d kind.Run ts = ⊥
 IsEnd d kind.Drill ts = (s : ℕ) × (l : ℕ) × (s < 2 ^ 64) × (l ≤ most_turns d) × (ts ≡ decimal s ∷ decimal l ∷ [])
+IsEnd d kind.Locate ts = IsFormEnd d ts
+IsEnd d kind.Cover ts = IsFormEnd d ts
+IsEnd d kind.Relevant ts = (k : ℕ) × (k ≤ most_entry) × (ts ≡ decimal k ∷ [])
+IsEnd d kind.Shortest ts = IsFormEnd d ts
+IsEnd d kind.Merge ts = ts ≡ []
 
 -- what stands behind the first word
 abbrev IsTail : Kind → List (List ℕ) → Type 0
@@ -70,6 +103,11 @@ tail_of (Summary d false) ts r e other = (d, [], r, cc, inl refl)
 tail_of (Check d) ts r e other = (d, [], r, cc, refl)
 tail_of (Run d w s r) ts range e other = absurd (other refl)
 tail_of (Drill d s l) ts (r, below, few) e other = (d, decimal s ∷ decimal l ∷ [], r, cc, (s, l, below, few, refl))
+tail_of (Locate s q) ts (few, small) p other = let e = p.words in (p.d, decimal s ∷ map signed_decimal q, p.dimension, cc, (s, q, few, p.numbers, small, refl))
+tail_of (Cover s q) ts (few, small) p other = let e = p.words in (p.d, decimal s ∷ map signed_decimal q, p.dimension, cc, (s, q, few, p.numbers, small, refl))
+tail_of (Relevant d k) ts (r, few) e other = (d, decimal k ∷ [], r, cc, (k, few, refl))
+tail_of (Shortest s q) ts (few, small) p other = let e = p.words in (p.d, decimal s ∷ map signed_decimal q, p.dimension, cc, (s, q, few, p.numbers, small, refl))
+tail_of (Merge d) ts r e other = (d, [], r, cc, refl)
 
 tail : (k : Kind) (ts : List (List ℕ)) → (k ≡ kind.Run → ⊥) → IsAccepted (kind_word k ∷ ts) → IsTail k ts
 tail k ts other (c, r, s) =
@@ -85,6 +123,23 @@ accepts kind.Summary ts (d, end, r, e, inr is) = (Summary d true, r, ap (λ l. c
 accepts kind.Check ts (d, end, r, e, is) = (Check d, r, ap (λ l. codes "check" ∷ l) (e ∙ ap (λ l. decimal d ∷ l) is))
 accepts kind.Run ts (d, end, r, e, is) = absurd is
 accepts kind.Drill ts (d, end, r, e, (s, l, below, few, is)) = (Drill d s l, (r, below, few), ap (λ m. codes "drill" ∷ m) (e ∙ ap (λ m. decimal d ∷ m) is))
+accepts kind.Locate ts (d, end, r, e, (s, q, few, numbers, small, is)) = (
+  Locate s q,
+  (few, small),
+  record { d = d; dimension = r; numbers = numbers; words = ap (λ m. codes "locate" ∷ m) (e ∙ ap (λ m. decimal d ∷ m) is) },
+)
+accepts kind.Cover ts (d, end, r, e, (s, q, few, numbers, small, is)) = (
+  Cover s q,
+  (few, small),
+  record { d = d; dimension = r; numbers = numbers; words = ap (λ m. codes "cover" ∷ m) (e ∙ ap (λ m. decimal d ∷ m) is) },
+)
+accepts kind.Relevant ts (d, end, r, e, (k, few, is)) = (Relevant d k, (r, few), ap (λ m. codes "relevant" ∷ m) (e ∙ ap (λ m. decimal d ∷ m) is))
+accepts kind.Shortest ts (d, end, r, e, (s, q, few, numbers, small, is)) = (
+  Shortest s q,
+  (few, small),
+  record { d = d; dimension = r; numbers = numbers; words = ap (λ m. codes "shortest" ∷ m) (e ∙ ap (λ m. decimal d ∷ m) is) },
+)
+accepts kind.Merge ts (d, end, r, e, is) = (Merge d, r, ap (λ l. codes "merge" ∷ l) (e ∙ ap (λ l. decimal d ∷ l) is))
 
 -- ---- faults
 
@@ -99,12 +154,31 @@ tail_fault ws k front more other has goes outside here =
           fault_at_end ws whole has len before (λ a. outside len (tail k front other a))
     ]
 
+-- no crossings, and a form of zeros
+zero_form : (end : List (List ℕ)) × IsFormEnd 2 end
+zero_form =
+    let zero = pos 0 ∷ pos 0 ∷ pos 0 ∷ [] in (
+      decimal 0 ∷ map signed_decimal zero,
+      (0, zero, omega arith, refl, All-from_get_or {X = ℤ} (IsWithin most_of_form) zero (pos 0) small, refl),
+    )
+  where
+    small : (i : ℕ) → i < 3 → IsWithin most_of_form (get_or (pos 0 ∷ pos 0 ∷ pos 0 ∷ []) i (pos 0))
+    small zero lt = omega arith
+    small (suc zero) lt = omega arith
+    small (suc (suc zero)) lt = omega arith
+    small (suc (suc (suc i))) lt = absurd (omega (arith, lt))
+
 some_end : (k : Kind) → (k ≡ kind.Run → ⊥) → (end : List (List ℕ)) × IsEnd 2 k end
 some_end kind.Principal other = ([], refl)
 some_end kind.Summary other = ([], inl refl)
 some_end kind.Check other = ([], refl)
 some_end kind.Run other = absurd (other refl)
 some_end kind.Drill other = (decimal 0 ∷ decimal 0 ∷ [], (0, 0, omega arith, omega arith, refl))
+some_end kind.Locate other = zero_form
+some_end kind.Cover other = zero_form
+some_end kind.Relevant other = (decimal 0 ∷ [], (0, omega arith, refl))
+some_end kind.Shortest other = zero_form
+some_end kind.Merge other = ([], refl)
 
 -- no dimension stands behind the first word
 pub dimension_fault : (ws : List (List ℕ)) (k : Kind) → (k ≡ kind.Run → ⊥) → HasFront ws (kind_word k ∷ []) → ((d : ℕ) → IsDimension d → HasWord ws 1 (decimal d) → ⊥) → FaultAt ws 1
@@ -168,6 +242,24 @@ fifth_word ws d s l r below few has more =
     (λ len t. omega (arith, len, more))
     (λ v rest w t. let e = t.4 in cc)
 
+-- no number of an entry stands behind `relevant D`
+pub entry_fault : (ws : List (List ℕ)) (d : ℕ) → IsDimension d → HasFront ws (codes "relevant" ∷ decimal d ∷ []) → ((k : ℕ) → k ≤ most_entry → HasWord ws 2 (decimal k) → ⊥) → FaultAt ws 2
+entry_fault ws d r has none =
+    later_fault ws kind.Relevant d [] (decimal 0 ∷ []) (λ e. cc) r has (0, omega arith, refl)
+    (λ len t. let e = t.2 in absurd (cc))
+    (λ v rest w t. let e = t.2 in none t.0 t.1 (w.0, w.1 ∙ cc))
+
+-- a word more than `relevant D K`
+pub word_behind_entry : (ws : List (List ℕ)) (d k : ℕ) → IsDimension d → k ≤ most_entry → HasFront ws (codes "relevant" ∷ decimal d ∷ decimal k ∷ []) → 3 < length ws → FaultAt ws 3
+word_behind_entry ws d k r few has more =
+    later_fault ws kind.Relevant d (decimal k ∷ []) [] (λ e. cc) r has (k, few, refl)
+    (λ len t. omega (arith, len, more))
+    (λ v rest w t. let e = t.2 in cc)
+
+-- the words begin with the number of an entry, too
+pub with_entry : (ws : List (List ℕ)) (d k : ℕ) → HasFront ws (codes "relevant" ∷ decimal d ∷ []) → HasWord ws 2 (decimal k) → HasFront ws (codes "relevant" ∷ decimal d ∷ decimal k ∷ [])
+with_entry ws d k has w = longer ws (codes "relevant" ∷ decimal d ∷ []) (decimal k) has w.0 w.1
+
 -- ---- the first word
 
 -- no word
@@ -182,11 +274,26 @@ other_kind ws some other =
 
 -- ---- answers
 
+-- the fault that is answered at the exit of a `?`, as a caller's
+pub fault_above : (r : Result Command WordsError) (e : WordsError) (ws : List (List ℕ)) → IsErrAnd r (λ y. y ≡ e) → FaultAt ws (place_of e) → IfErr r (λ y. FaultAt ws (place_of y))
+fault_above r e ws at fault =
+    let p = err_from_is_err_and r at in
+    subst (λ x. IfErr x (λ y. FaultAt ws (place_of y))) (sym p.1) (subst (λ y. FaultAt ws (place_of y)) (sym p.2) fault)
+
 -- the fault that is answered at the exit of a `?`
 pub fault_at_exit : (r : Result Command WordsError) (e : WordsError) (ws : List (List ℕ)) (place : ℕ) → IsErrAnd r (λ y. y ≡ e) → e ≡ Fault place → FaultAt ws place → IfErr r (λ y. FaultAt ws (place_of y))
-fault_at_exit r e ws place at is fault =
+fault_at_exit r e ws place at is fault = fault_above r e ws at (subst (λ y. FaultAt ws (place_of y)) (sym is) fault)
+
+-- the same for commands of some kinds
+pub cut_at_exit : {X : Type 0} {Is : Kind → Type 0} (r : Result X WordsError) (e : WordsError) (ws : List (List ℕ)) → IsErrAnd r (λ y. y ≡ e) → ((k : Kind) → Is k → HasFront ws (kind_word k ∷ []) → FaultAt ws (place_of e)) → IfErr r (λ y. (k : Kind) → Is k → HasFront ws (kind_word k ∷ []) → FaultAt ws (place_of y))
+cut_at_exit {X} {Is} r e ws at fault =
     let p = err_from_is_err_and r at in
-    subst (λ x. IfErr x (λ y. FaultAt ws (place_of y))) (sym p.1) (subst (λ y. FaultAt ws (place_of y)) (sym (p.2 ∙ is)) fault)
+    let all = λ (y : WordsError). (k : Kind) → Is k → HasFront ws (kind_word k ∷ []) → FaultAt ws (place_of y) in
+    subst (λ x. IfErr x all) (sym p.1) (subst all (sym p.2) fault)
+
+pub place_at_exit : {X : Type 0} {Is : Kind → Type 0} (r : Result X WordsError) (e : WordsError) (ws : List (List ℕ)) (place : ℕ) → IsErrAnd r (λ y. y ≡ e) → e ≡ Fault place → ((k : Kind) → Is k → HasFront ws (kind_word k ∷ []) → FaultAt ws place) → IfErr r (λ y. (k : Kind) → Is k → HasFront ws (kind_word k ∷ []) → FaultAt ws (place_of y))
+place_at_exit {X} {Is} r e ws place at is fault =
+    cut_at_exit {X = X} {Is = Is} r e ws at (subst (λ (y : WordsError). (k : Kind) → Is k → HasFront ws (kind_word k ∷ []) → FaultAt ws (place_of y)) (sym is) fault)
 
 -- the word at a place, as the program reads it
 pub word_here : (words : List (Bor (List ℕ))) (place : ℕ) (default : Bor (List ℕ)) → place < length words → (get_or words place default).now ≡ get_or (texts words) place []

@@ -1,9 +1,12 @@
 -- The words of the command line.
-use Rattle.std.specs.Prelude.{◌≡◌, ℕ, suc, ◌+◌, ◌^◌, ◌<◌, ◌≤◌, Bool, true, false, cond, List, [], ◌∷◌, ◌++◌, ◌⊎◌, nat_le, length, take, map, codes}
-use Rattle.std.specs.Fmt.{decimal}
+use Rattle.std.specs.Prelude.{◌≡◌, ℕ, ℤ, suc, ◌+◌, ◌^◌, ◌<◌, ◌≤◌, Bool, true, false, cond, List, [], ◌∷◌, ◌++◌, ◌⊎◌, nat_le, length, take, map, codes}
+use Rattle.std.specs.Fmt.{decimal, signed_decimal}
+use Rattle.std.specs.List.{All}
+use Rattle.lt_model.specs.Forms.{numbers_of_form}
 use Rattle.lt_model.specs.Limits.{step_limit}
+use Rattle.lt_lattice.specs.Ranges.{IsWithin}
 use Rattle.lt_words.specs.declared.words.Command.{Command}
-use Rattle.lt_words.specs.declared.words.Command.TheVariants.{Principal, Summary, Check, Run, Drill}
+use Rattle.lt_words.specs.declared.words.Command.TheVariants.{Principal, Summary, Check, Run, Drill, Locate, Cover, Relevant, Shortest, Merge}
 use Rattle.lt_words.specs.declared.words.WordsError.{WordsError}
 use Rattle.lt_words.specs.declared.words.WordsError.TheVariants.{Fault}
 use Rattle.lt_words.specs.declared.options.Setting.{Setting}
@@ -32,6 +35,22 @@ most_steps = step_limit 2
 abbrev pub most_turns : ℕ → ℕ
 most_turns d = cond (nat_le d 5) 1000 950
 
+-- the greatest number of crossings of a walk
+abbrev pub most_crossings : ℕ
+most_crossings = 10000
+
+-- the greatest absolute value of a number of a form
+abbrev pub most_of_form : ℕ
+most_of_form = 2 ^ 40
+
+-- the greatest number of an entry
+abbrev pub most_entry : ℕ
+most_entry = 1000000
+
+-- the number of crossings and the form of a walk
+abbrev pub IsWalkGiven : ℕ → List ℤ → Type 0
+IsWalkGiven steps q = (steps ≤ most_crossings) × All (IsWithin most_of_form) q
+
 -- a number that an option of a run takes in some dimension
 abbrev pub IsInSetting : Setting → ℕ → Type 0
 IsInSetting Workers n = (1 ≤ n) × (n ≤ most_workers)
@@ -44,6 +63,11 @@ InRange (Summary d resume) = IsDimension d
 InRange (Check d) = IsDimension d
 InRange (Run d workers steps resume) = IsDimension d × IsInSetting Workers workers × (steps ≤ step_limit d)
 InRange (Drill d seed turns) = IsDimension d × (seed < 2 ^ 64) × (turns ≤ most_turns d)
+InRange (Locate steps q) = IsWalkGiven steps q
+InRange (Cover steps q) = IsWalkGiven steps q
+InRange (Relevant d entry) = IsDimension d × (entry ≤ most_entry)
+InRange (Shortest steps q) = IsWalkGiven steps q
+InRange (Merge d) = IsDimension d
 
 -- ---- what stands behind the word `run`
 
@@ -129,6 +153,15 @@ pub record MakeRun (d workers steps : ℕ) (resume : Bool) (items : List Item) :
   pub resumed : resumes items ≡ times resume
   pub ended : AreEnded items
 
+-- ---- commands on a form
+
+-- the word of the command, the dimension, the number of crossings, and the numbers of the form
+pub record SpellsForm (word : List ℕ) (steps : ℕ) (q : List ℤ) (ws : List (List ℕ)) : Type 0 where
+  pub d : ℕ
+  pub dimension : IsDimension d
+  pub numbers : length q ≡ numbers_of_form d
+  pub words : ws ≡ word ∷ decimal d ∷ decimal steps ∷ map signed_decimal q
+
 -- ---- commands
 
 -- the words are a spelling of the command
@@ -140,6 +173,11 @@ Spells (Run d workers steps resume) ws =
     (rest : List (List ℕ)) × (items : List Item) × (ws ≡ codes "run" ∷ rest) × AreSpellings items rest ×
     MakeRun d workers steps resume items
 Spells (Drill d seed turns) ws = ws ≡ codes "drill" ∷ decimal d ∷ decimal seed ∷ decimal turns ∷ []
+Spells (Locate steps q) ws = SpellsForm (codes "locate") steps q ws
+Spells (Cover steps q) ws = SpellsForm (codes "cover") steps q ws
+Spells (Relevant d entry) ws = ws ≡ codes "relevant" ∷ decimal d ∷ decimal entry ∷ []
+Spells (Shortest steps q) ws = SpellsForm (codes "shortest") steps q ws
+Spells (Merge d) ws = ws ≡ codes "merge" ∷ decimal d ∷ []
 
 -- the words are those of a command
 abbrev pub IsAccepted : List (List ℕ) → Type 0

@@ -1,6 +1,9 @@
 -- The words of a command one by one.
-use Rattle.std.specs.Prelude.{◌≡◌, ℕ, ◌<◌, ◌≤◌, List, [], ◌++◌, length, get_or, codes}
-use Rattle.std.specs.Fmt.{decimal}
+use Rattle.std.specs.Prelude.{◌≡◌, ◌⊎◌, ℕ, ℤ, ◌+◌, ◌<◌, ◌≤◌, List, [], ◌++◌, length, map, get_or, codes}
+use Rattle.std.specs.Fmt.{decimal, signed_decimal}
+use Rattle.std.specs.List.{All}
+use Rattle.lt_model.specs.Forms.{numbers_of_form}
+use Rattle.lt_lattice.specs.Ranges as ranges
 use Rattle.lt_words.specs.declared.words.Kind.{Kind}
 use Rattle.lt_words.specs.declared.words.Kind.TheVariants as kind
 use Rattle.lt_words.specs.declared.options.Part.{Part}
@@ -14,6 +17,19 @@ kind_word kind.Summary = codes "summary"
 kind_word kind.Check = codes "check"
 kind_word kind.Run = codes "run"
 kind_word kind.Drill = codes "drill"
+kind_word kind.Locate = codes "locate"
+kind_word kind.Cover = codes "cover"
+kind_word kind.Relevant = codes "relevant"
+kind_word kind.Shortest = codes "shortest"
+kind_word kind.Merge = codes "merge"
+
+-- a command with a dimension and nothing else
+abbrev pub IsAlone : Kind → Type 0
+IsAlone k = (k ≡ kind.Principal) ⊎ (k ≡ kind.Check) ⊎ (k ≡ kind.Merge)
+
+-- a command with the number of crossings to a form
+abbrev pub IsOnForm : Kind → Type 0
+IsOnForm k = (k ≡ kind.Locate) ⊎ (k ≡ kind.Cover) ⊎ (k ≡ kind.Shortest)
 
 -- the words begin with these
 abbrev pub HasFront : List (List ℕ) → List (List ℕ) → Type 0
@@ -22,6 +38,19 @@ HasFront ws front = (rest : List (List ℕ)) × (ws ≡ front ++ rest)
 -- this word stands at the place
 abbrev pub HasWord : List (List ℕ) → ℕ → List ℕ → Type 0
 HasWord ws place w = (place < length ws) × (get_or ws place [] ≡ w)
+
+-- these words stand from the place on
+abbrev pub HasWords : List (List ℕ) → ℕ → List (List ℕ) → Type 0
+HasWords ws place vs = (i : ℕ) → i < length vs → HasWord ws (place + i) (get_or vs i [])
+
+-- Numbers of a form in d variables stand from `start` on, but not all of them: at the place stands none.
+pub record IsCut (ws : List (List ℕ)) (start d most place : ℕ) : Type 0 where
+  pub numbers : List ℤ
+  pub few : length numbers < numbers_of_form d
+  pub within : All (ranges.IsWithin most) numbers
+  pub words : HasWords ws start (map signed_decimal numbers)
+  pub at : place ≡ start + length numbers
+  pub none : (z : ℤ) → ranges.IsWithin most z → HasWord ws place (signed_decimal z) → ⊥
 
 -- a number from low to high
 abbrev pub IsWithin : ℕ → ℕ → ℕ → Type 0

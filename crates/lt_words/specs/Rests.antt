@@ -3,7 +3,7 @@ use Rattle.std.specs.Prelude.{◌≡◌, ℕ, ◌+◌, ◌*◌, ◌≤◌, Bool,
 use Rattle.std.specs.Fmt.{decimal}
 use Rattle.lt_model.specs.Limits.{step_limit}
 use Rattle.lt_words.specs.declared.words.Command.{Command}
-use Rattle.lt_words.specs.declared.words.Command.TheVariants.{Principal, Summary, Check, Run, Drill}
+use Rattle.lt_words.specs.declared.words.Command.TheVariants.{Run}
 use Rattle.lt_words.specs.declared.options.Setting.{Setting}
 use Rattle.lt_words.specs.declared.options.Setting.TheVariants.{Workers, Steps}
 use Rattle.lt_words.specs.declared.options.Options.{Options}
@@ -70,11 +70,8 @@ pub record CompleteRun (o : Options) (d workers steps : ℕ) (resume : Bool) (it
 
 -- what was read, and then these items, makes the command
 abbrev pub Complete : Options → Command → List Item → Type 0
-Complete o (Principal d) items = ⊥
-Complete o (Summary d resume) items = ⊥
-Complete o (Check d) items = ⊥
-Complete o (Drill d s l) items = ⊥
 Complete o (Run d workers steps resume) items = CompleteRun o d workers steps resume items
+Complete o _ items = ⊥
 
 -- with this number of a setting, what was read is this
 abbrev pub TakesNumber : Options → Setting → ℕ → Options → Type 0

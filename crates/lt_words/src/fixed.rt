@@ -1,78 +1,24 @@
 //! The commands whose words stand in one order.
 
-ghost use Rattle.std.specs.Prelude.{◌≡◌, ◌<◌, ◌≤◌, [], ◌∷◌, ℕ, length, codes, IsTrue, ◌↔◌, IfOk, IfErr, OnOk};
+ghost use Rattle.std.specs.Prelude.{◌≡◌, ℕ, List, [], ◌∷◌, codes, IfOk, IfErr};
 ghost use Rattle.std.specs.Fmt.{decimal};
+ghost use Rattle.lt_words.specs.declared.words.Kind.{Kind};
 ghost use Rattle.lt_words.specs.Grammar.{texts, IsDimension, InRange, Spells, FaultAt, place_of};
-ghost use Rattle.lt_words.specs.Parts.{HasFront, HasWord, IsWithin};
+ghost use Rattle.lt_words.specs.Parts.{HasFront, IsAlone, kind_word};
 
-use crate::limits::{HIGHEST, LOWEST, turn_limit};
-use crate::numbers::number_of;
+use crate::limits::{MOST_ENTRY, turn_limit};
+use crate::places::{dimension_at, end_at, is_at, number_at};
 use crate::words::{Command, WordsError};
 
-/// The number, `low` to `high`, that the word at a place spells.
-fn number_at(words: &[&str], place: u32, low: u64, high: u64) -> Result<u64, WordsError>
-    ensures found { IfOk result (λ n. IsWithin low high n × HasWord (texts words.now) place (decimal n)) }
-    ensures place { IfErr result (λ e. e ≡ WordsError.Fault place) }
-    ensures none { IfErr result (λ _. (n : ℕ) → IsWithin low high n → HasWord (texts words.now) place (decimal n) → ⊥) }
-{
-    match words.get(place as usize) {
-        None => Err(WordsError::Fault { place }),
-        Some(word) => match number_of(word, low, high) {
-            None => Err(WordsError::Fault { place }),
-            Some(n) => Ok(n),
-        },
-    }
-}
-
-/// The dimension that the second word spells.
-fn dimension_at(words: &[&str]) -> Result<u8, WordsError>
-    ensures found { IfOk result (λ d. IsDimension d × HasWord (texts words.now) 1 (decimal d)) }
-    ensures place { IfErr result (λ e. e ≡ WordsError.Fault 1) }
-    ensures none { IfErr result (λ _. (d : ℕ) → IsDimension d → HasWord (texts words.now) 1 (decimal d) → ⊥) }
-{
-    let d = number_at(words, 1, LOWEST as u64, HIGHEST as u64)?;
-    Ok(d as u8)
-}
-
-/// Sees that no word stands at a place.
-fn end_at(words: &[&str], place: u32) -> Result<(), WordsError>
-    ensures end { OnOk result (length words.now ≤ place) }
-    ensures place { IfErr result (λ e. e ≡ WordsError.Fault place) }
-    ensures more { IfErr result (λ _. place < length words.now) }
-{
-    if words.len() > place as usize {
-        return Err(WordsError::Fault { place });
-    }
-    Ok(())
-}
-
-/// Whether this word stands at a place.
-fn is_at(words: &[&str], place: usize, word: &str) -> bool
-    ensures { IsTrue result ↔ HasWord (texts words.now) place word.now }
-{
-    place < words.len() && words[place] == word
-}
-
-/// The command `principal`, with its dimension to come.
-pub fn read_principal(words: &[&str]) -> Result<Command, WordsError>
-    requires { HasFront (texts words.now) (codes "principal" ∷ []) }
-    ensures command { IfOk result (λ c. InRange c × Spells c (texts words.now)) }
-    ensures fault { IfErr result (λ e. FaultAt (texts words.now) (place_of e)) }
+/// The dimension of a command that has nothing else behind its word.
+pub fn read_alone(words: &[&str]) -> Result<u8, WordsError>
+    ensures dimension { IfOk result (λ d. IsDimension d) }
+    ensures words { IfOk result (λ d. (w : List ℕ) → HasFront (texts words.now) (w ∷ []) → texts words.now ≡ w ∷ decimal d ∷ []) }
+    ensures fault { IfErr result (λ e. (k : Kind) → IsAlone k → HasFront (texts words.now) (kind_word k ∷ []) → FaultAt (texts words.now) (place_of e)) }
 {
     let d = dimension_at(words)?;
     end_at(words, 2)?;
-    Ok(Command::Principal { d })
-}
-
-/// The command `check`, with its dimension to come.
-pub fn read_check(words: &[&str]) -> Result<Command, WordsError>
-    requires { HasFront (texts words.now) (codes "check" ∷ []) }
-    ensures command { IfOk result (λ c. InRange c × Spells c (texts words.now)) }
-    ensures fault { IfErr result (λ e. FaultAt (texts words.now) (place_of e)) }
-{
-    let d = dimension_at(words)?;
-    end_at(words, 2)?;
-    Ok(Command::Check { d })
+    Ok(d)
 }
 
 /// The command `summary`, with its dimension and option to come.
@@ -98,4 +44,19 @@ pub fn read_drill(words: &[&str]) -> Result<Command, WordsError>
     let length = number_at(words, 3, 0, turn_limit(d))?;
     end_at(words, 4)?;
     Ok(Command::Drill { d, seed, length })
+}
+
+/// The command `relevant`, with its dimension and the number of an entry to come.
+pub fn read_relevant(words: &[&str]) -> Result<Command, WordsError>
+    requires { HasFront (texts words.now) (codes "relevant" ∷ []) }
+    ensures command { IfOk result (λ c. InRange c × Spells c (texts words.now)) }
+    ensures fault { IfErr result (λ e. FaultAt (texts words.now) (place_of e)) }
+{
+    let d = dimension_at(words)?;
+    let entry = number_at(words, 2, 0, MOST_ENTRY)?;
+    end_at(words, 3)?;
+    Ok(Command::Relevant {
+        d,
+        entry: entry as u32,
+    })
 }

@@ -2,9 +2,11 @@
 #![tactic(auto)]
 
 mod fixed;
+mod forms;
 mod limits;
 mod numbers;
 mod options;
+mod places;
 mod words;
 
 pub use words::{Command, WordsError, faults_are_exact, read_words};

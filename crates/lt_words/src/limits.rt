@@ -10,6 +10,15 @@ pub const LOWEST: u8 = 2;
 /// The highest dimension.
 pub const HIGHEST: u8 = 6;
 
+/// The greatest number of an entry.
+pub const MOST_ENTRY: u64 = 1_000_000;
+
+/// The greatest number of crossings of a walk.
+pub const MOST_CROSSINGS: u64 = 10_000;
+
+/// The greatest absolute value of a number of a form.
+pub const MOST_OF_FORM: u64 = 1 << 40;
+
 /// The greatest number of steps of a run in dimension `d`, which a run takes where none is named. It is greatest in
 /// the lowest dimension.
 pub fn step_limit(d: u8) -> u64

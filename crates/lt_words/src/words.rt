@@ -1,14 +1,16 @@
-ghost use Rattle.std.specs.Prelude.{◌≡◌, IfOk, IfErr, IfSome, IfNone};
+ghost use Rattle.std.specs.Prelude.{◌≡◌, [], ◌∷◌, IfOk, IfErr, IfSome, IfNone};
 ghost use Rattle.lt_words.specs.Grammar.{texts, InRange, Spells, FaultAt, place_of};
-ghost use Rattle.lt_words.specs.Parts.{kind_word};
+ghost use Rattle.lt_words.specs.Parts.{HasFront, kind_word};
 ghost use Rattle.lt_words.specs.Laws.{EveryFaultHasOnePlace, NoCommandHasAFault, WordsSpellOneCommand, DrillsKeepTheStepLimit};
 
-use crate::fixed::{read_check, read_drill, read_principal, read_summary};
+use crate::fixed::{read_alone, read_drill, read_relevant, read_summary};
+use crate::forms::read_form;
 use crate::options::read_run;
+use lt_lattice::Form;
 use thiserror::Error;
 
 /// What the program is asked to do. Each dimension `d` is 2 to 6.
-#[derive(Clone, Copy, Debug, PartialEq, Eq, Drop)]
+#[derive(Drop)]
 pub enum Command {
     /// `principal D`: print the principal type of dimension `d`.
     Principal {
@@ -39,6 +41,31 @@ pub enum Command {
         seed: u64,
         length: u64,
     },
+    /// `locate D B` and the numbers of a form: walk to its triangulation, of at most `steps` crossings, 0 to 10,000. The numbers of each form
+    /// are at most 2^40 in absolute value.
+    Locate {
+        steps: u32,
+        q: Form,
+    },
+    /// `cover D B` and the numbers of a form: its squared covering radius.
+    Cover {
+        steps: u32,
+        q: Form,
+    },
+    /// `relevant D K`: the relevant vectors of entry `entry`, 0 to 1,000,000, of the atlas that is read.
+    Relevant {
+        d: u8,
+        entry: u32,
+    },
+    /// `shortest D B` and the numbers of a form: its shortest vectors.
+    Shortest {
+        steps: u32,
+        q: Form,
+    },
+    /// `merge D`: two atlases to one, which are read one after the other.
+    Merge {
+        d: u8,
+    },
 }
 
 /// Why words are no command.
@@ -58,6 +85,11 @@ enum Kind {
     Check,
     Run,
     Drill,
+    Locate,
+    Cover,
+    Relevant,
+    Shortest,
+    Merge,
 }
 
 /// The kind that a word tells.
@@ -71,7 +103,47 @@ fn kind_of(word: &str) -> Option<Kind>
         "check" => Some(Kind::Check),
         "run" => Some(Kind::Run),
         "drill" => Some(Kind::Drill),
+        "locate" => Some(Kind::Locate),
+        "cover" => Some(Kind::Cover),
+        "relevant" => Some(Kind::Relevant),
+        "shortest" => Some(Kind::Shortest),
+        "merge" => Some(Kind::Merge),
         _ => None,
+    }
+}
+
+/// The command of a kind, with what stands behind its word to come.
+fn read_command(words: &[&str], kind: Kind) -> Result<Command, WordsError>
+    requires { HasFront (texts words.now) (kind_word kind ∷ []) }
+    ensures command { IfOk result (λ c. InRange c × Spells c (texts words.now)) }
+    ensures fault { IfErr result (λ e. FaultAt (texts words.now) (place_of e)) }
+{
+    match kind {
+        Kind::Principal => Ok(Command::Principal {
+            d: read_alone(words)?,
+        }),
+        Kind::Summary => read_summary(words),
+        Kind::Check => Ok(Command::Check {
+            d: read_alone(words)?,
+        }),
+        Kind::Run => read_run(words),
+        Kind::Drill => read_drill(words),
+        Kind::Locate => {
+            let (steps, q) = read_form(words)?;
+            Ok(Command::Locate { steps, q })
+        }
+        Kind::Cover => {
+            let (steps, q) = read_form(words)?;
+            Ok(Command::Cover { steps, q })
+        }
+        Kind::Relevant => read_relevant(words),
+        Kind::Shortest => {
+            let (steps, q) = read_form(words)?;
+            Ok(Command::Shortest { steps, q })
+        }
+        Kind::Merge => Ok(Command::Merge {
+            d: read_alone(words)?,
+        }),
     }
 }
 
@@ -86,11 +158,7 @@ pub fn read_words(words: &[&str]) -> Result<Command, WordsError>
     }
     match kind_of(words[0]) {
         None => Err(WordsError::Fault { place: 0 }),
-        Some(Kind::Principal) => read_principal(words),
-        Some(Kind::Summary) => read_summary(words),
-        Some(Kind::Check) => read_check(words),
-        Some(Kind::Run) => read_run(words),
-        Some(Kind::Drill) => read_drill(words),
+        Some(kind) => read_command(words, kind),
     }
 }
 

@@ -2,7 +2,7 @@ use Rattle.std.proofs.Common.{◌∙◌, sym, arith}
 use Rattle.std.proofs.lemmas.List.{length-map}
 use Rattle.std.proofs.lemmas.Slice.Eq.{bytes_eq-Decides}
 use Rattle.lt_words.proofs.Tails.{word_here}
-use Rattle.lt_words.proofs.fixed.is_at.Goals as goal
+use Rattle.lt_words.proofs.places.is_at.Goals as goal
 
 pub returns-then-place-words : goal.returns-then-place-words
 returns-then-place-words c =
