@@ -358,13 +358,13 @@ impl<L: Ledger> Desk<L> {
         let Desk {
             atlas,
             shared,
-            book,
+            book: counts,
             ..
         } = self;
         match atlas.record_new(position, test.tested, beyond, cone) {
             Ok(_) => {
                 shared.push_reserved(copy);
-                book.add(share, 1);
+                counts.add(share, 1);
                 Ok(())
             }
             Err(
