@@ -6,6 +6,7 @@ ghost use Rattle.lt_model.specs.Forms.{numbers_of_form};
 ghost use Rattle.lt_model.specs.Limits.{span_limit};
 ghost use Rattle.lt_model.specs.Triangulations.{IsDelaunay};
 ghost use Rattle.lt_lattice.specs.Ranges.{IsWithin};
+ghost use Rattle.lt_num.specs.Fractions.{IsReduced};
 ghost use Rattle.lt_triang.specs.Kept.{dimension_of};
 ghost use Rattle.lt_cover.specs.Covers.{IsCover, IsRadius, AreShort};
 ghost use Rattle.lt_cover.specs.Long.{IsLong, IsLongAt, AreShortAt};
@@ -45,7 +46,8 @@ fn radius_at(q: &Form, t: &Triangulation, k: usize) -> Fraction
     requires within { All (IsWithin (2 ^ 40)) q.now }
     requires short { AreShort (dimension_of t.now) q.now t.now }
     requires place { k < length t.now }
-    ensures { IsRadius (dimension_of t.now) q.now (get_or t.now k []) result }
+    ensures radius { IsRadius (dimension_of t.now) q.now (get_or t.now k []) result }
+    ensures lowest { IsReduced result }
 {
     let class = t.class(k);
     // It shows how near the vertices are to one another.
@@ -58,7 +60,8 @@ fn greatest(q: &Form, t: &Triangulation) -> Cover
     requires delaunay { IsDelaunay (dimension_of t.now) q.now t.now }
     requires within { All (IsWithin (2 ^ 40)) q.now }
     requires short { AreShort (dimension_of t.now) q.now t.now }
-    ensures { IsCover (dimension_of t.now) q.now t.now result.radius result.class }
+    ensures cover { IsCover (dimension_of t.now) q.now t.now result.radius result.class }
+    ensures lowest { IsReduced result.radius }
 {
     let mut best = Cover {
         radius: radius_at(q, t, 0),
@@ -82,6 +85,7 @@ pub fn cover(alloc: Global, q: &Form, t: &Triangulation) -> Result<Cover, CoverE
     requires within { All (IsWithin (2 ^ 40)) q.now }
     ensures short { IfOk result (λ _. AreShort (dimension_of t.now) q.now t.now) }
     ensures cover { IfOk result (λ c. IsCover (dimension_of t.now) q.now t.now c.radius c.class) }
+    ensures lowest { IfOk result (λ c. IsReduced c.radius) }
     ensures long { IfErr result (λ e. IsLong (dimension_of t.now) q.now t.now e) }
 {
     let points = edges(alloc, t)?;

@@ -5,7 +5,7 @@ ghost use Rattle.std.specs.List.{All};
 ghost use Rattle.lt_model.specs.Vectors.{dot};
 ghost use Rattle.lt_model.specs.Forms as form;
 ghost use Rattle.lt_lattice.specs.Ranges.{IsWithin, IsBelow};
-ghost use Rattle.lt_num.specs.Fractions.{IsQuotient};
+ghost use Rattle.lt_num.specs.Fractions.{IsQuotient, IsReduced};
 ghost use Rattle.lt_solve.specs.Systems.{IsSolution};
 ghost use Rattle.lt_cover.specs.Gram.{IsMeasured, gram};
 ghost use Rattle.lt_cover.specs.Covers.{IsRadius};
@@ -61,7 +61,8 @@ fn combination(q: &Form, class: &Class, values: &[i64]) -> Solution
 /// squared circumradius is half the sum of these numbers times the values of the form at the vertices.
 pub fn radius_of(q: &Form, class: &Class) -> Fraction
     requires { IsMeasured (length class.now - 1) q.now class.now }
-    ensures { IsRadius (length class.now - 1) q.now class.now result }
+    ensures radius { IsRadius (length class.now - 1) q.now class.now result }
+    ensures lowest { IsReduced result }
 {
     let values = values(q, class);
     let solution = combination(q, class, values.as_slice());

@@ -14,7 +14,7 @@ use std::alloc::Global;
 use std::process::Abort;
 
 /// The triangulation of a form to which ten crossings lead.
-fn triangulation_of(rt: &impl Abort, alloc: Global, q: &Form) -> Triangulation
+pub fn triangulation_of(rt: &impl Abort, alloc: Global, q: &Form) -> Triangulation
     requires { All (IsWithin (2 ^ 40)) q.now }
     ensures { IsDelaunay (dimension_of result) q.now result }
 {

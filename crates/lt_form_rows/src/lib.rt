@@ -1,5 +1,7 @@
-//! Tests of the calls on a form: edges, the walk to its triangulation, and its covering radius.
+//! Tests of the calls on a form: edges, the walk to its triangulation, its covering radius, and its relevant and shortest vectors.
 #![tactic(auto)]
 
 #[cfg(test)]
 mod forms;
+#[cfg(test)]
+mod vectors;

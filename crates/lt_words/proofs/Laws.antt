@@ -7,7 +7,7 @@ use Rattle.std.specs.List.{All}
 use Rattle.lt_lattice.specs.Ranges.{IsWithin}
 use Rattle.lt_scan.proofs.Numerals.{one_spelling}
 use Rattle.lt_words.specs.declared.words.Command.{Command}
-use Rattle.lt_words.specs.declared.words.Command.TheVariants.{Principal, Summary, Check, Run, Drill, Locate, Cover, Relevant, Shortest, Merge}
+use Rattle.lt_words.specs.declared.words.Command.TheVariants.{Principal, Summary, Check, Run, Drill, Locate, Cover, Relevant, Shortest}
 use Rattle.lt_words.specs.declared.options.Setting.TheVariants.{Workers, Steps}
 use Rattle.lt_words.specs.declared.options.Part.TheVariants.{Dimension, Resume, Ending, Named, Joined}
 use Rattle.lt_words.specs.Grammar.{InRange, Item, dimension, setting, resuming, ending, setting_word, AreSpellings, numbers, times, IsChosen, MakeRun, SpellsForm, Spells, Begins, FaultAt, most_crossings, most_of_form}
@@ -129,7 +129,6 @@ same_commands (Relevant d i) (Relevant e j) ws k (r, few) (q, less) f g =
     cc
 same_commands (Shortest s x) (Shortest t y) ws k (few, small) (less, tiny) f g =
     let (steps, forms) = same_form (codes "shortest") s t x y ws few less small tiny f g in cc
-same_commands (Merge d) (Merge e) ws k r q f g = ap (λ n. Merge n) (same_dimension d e r q (cc))
 same_commands _ _ ws k r q f g = absurd (cc)
 
 -- words spell one command at most

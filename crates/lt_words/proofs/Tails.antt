@@ -11,7 +11,7 @@ use Rattle.std.specs.List.{All}
 use Rattle.lt_model.specs.Forms.{numbers_of_form}
 use Rattle.lt_lattice.specs.Ranges.{IsWithin}
 use Rattle.lt_words.specs.declared.words.Command.{Command}
-use Rattle.lt_words.specs.declared.words.Command.TheVariants.{Principal, Summary, Check, Run, Drill, Locate, Cover, Relevant, Shortest, Merge}
+use Rattle.lt_words.specs.declared.words.Command.TheVariants.{Principal, Summary, Check, Run, Drill, Locate, Cover, Relevant, Shortest}
 use Rattle.lt_words.specs.declared.words.WordsError.{WordsError}
 use Rattle.lt_words.specs.declared.words.WordsError.TheVariants.{Fault}
 use Rattle.lt_words.specs.declared.words.Kind.{Kind}
@@ -33,7 +33,6 @@ kind_of (Locate s q) = kind.Locate
 kind_of (Cover s q) = kind.Cover
 kind_of (Relevant d e) = kind.Relevant
 kind_of (Shortest s q) = kind.Shortest
-kind_of (Merge d) = kind.Merge
 
 -- a command begins with the word of its kind
 pub first_word : (c : Command) (ws : List (List ℕ)) → Spells c ws → (rest : List (List ℕ)) × (ws ≡ kind_word (kind_of c) ∷ rest)
@@ -46,14 +45,13 @@ first_word (Locate s q) ws p = (decimal p.d ∷ decimal s ∷ map signed_decimal
 first_word (Cover s q) ws p = (decimal p.d ∷ decimal s ∷ map signed_decimal q, p.words)
 first_word (Relevant d k) ws e = (decimal d ∷ decimal k ∷ [], e)
 first_word (Shortest s q) ws p = (decimal p.d ∷ decimal s ∷ map signed_decimal q, p.words)
-first_word (Merge d) ws e = (decimal d ∷ [], e)
 
 -- a number that the first and the third byte of a word give
 key : List ℕ → ℕ
 key w = get_or w 0 0 + 3 * get_or w 2 0
 
 kind_at : ℕ → Kind
-kind_at n = cond (eqb n 427) kind.Principal (cond (eqb n 442) kind.Summary (cond (eqb n 402) kind.Check (cond (eqb n 415) kind.Drill (cond (eqb n 405) kind.Locate (cond (eqb n 453) kind.Cover (cond (eqb n 438) kind.Relevant (cond (eqb n 448) kind.Shortest (cond (eqb n 451) kind.Merge kind.Run))))))))
+kind_at n = cond (eqb n 427) kind.Principal (cond (eqb n 442) kind.Summary (cond (eqb n 402) kind.Check (cond (eqb n 415) kind.Drill (cond (eqb n 405) kind.Locate (cond (eqb n 453) kind.Cover (cond (eqb n 438) kind.Relevant (cond (eqb n 448) kind.Shortest kind.Run)))))))
 
 kind_again : (k : Kind) → kind_at (key (kind_word k)) ≡ k
 unfolding kind_at key
@@ -66,7 +64,6 @@ kind_again kind.Locate = refl
 kind_again kind.Cover = refl
 kind_again kind.Relevant = refl
 kind_again kind.Shortest = refl
-kind_again kind.Merge = refl
 
 -- kinds have different words
 pub same_kind : (k l : Kind) → kind_word k ≡ kind_word l → k ≡ l
@@ -90,7 +87,6 @@ IsEnd d kind.Locate ts = IsFormEnd d ts
 IsEnd d kind.Cover ts = IsFormEnd d ts
 IsEnd d kind.Relevant ts = (k : ℕ) × (k ≤ most_entry) × (ts ≡ decimal k ∷ [])
 IsEnd d kind.Shortest ts = IsFormEnd d ts
-IsEnd d kind.Merge ts = ts ≡ []
 
 -- what stands behind the first word
 abbrev IsTail : Kind → List (List ℕ) → Type 0
@@ -107,7 +103,6 @@ tail_of (Locate s q) ts (few, small) p other = let e = p.words in (p.d, decimal 
 tail_of (Cover s q) ts (few, small) p other = let e = p.words in (p.d, decimal s ∷ map signed_decimal q, p.dimension, cc, (s, q, few, p.numbers, small, refl))
 tail_of (Relevant d k) ts (r, few) e other = (d, decimal k ∷ [], r, cc, (k, few, refl))
 tail_of (Shortest s q) ts (few, small) p other = let e = p.words in (p.d, decimal s ∷ map signed_decimal q, p.dimension, cc, (s, q, few, p.numbers, small, refl))
-tail_of (Merge d) ts r e other = (d, [], r, cc, refl)
 
 tail : (k : Kind) (ts : List (List ℕ)) → (k ≡ kind.Run → ⊥) → IsAccepted (kind_word k ∷ ts) → IsTail k ts
 tail k ts other (c, r, s) =
@@ -139,7 +134,6 @@ accepts kind.Shortest ts (d, end, r, e, (s, q, few, numbers, small, is)) = (
   (few, small),
   record { d = d; dimension = r; numbers = numbers; words = ap (λ m. codes "shortest" ∷ m) (e ∙ ap (λ m. decimal d ∷ m) is) },
 )
-accepts kind.Merge ts (d, end, r, e, is) = (Merge d, r, ap (λ l. codes "merge" ∷ l) (e ∙ ap (λ l. decimal d ∷ l) is))
 
 -- ---- faults
 
@@ -178,7 +172,6 @@ some_end kind.Locate other = zero_form
 some_end kind.Cover other = zero_form
 some_end kind.Relevant other = (decimal 0 ∷ [], (0, omega arith, refl))
 some_end kind.Shortest other = zero_form
-some_end kind.Merge other = ([], refl)
 
 -- no dimension stands behind the first word
 pub dimension_fault : (ws : List (List ℕ)) (k : Kind) → (k ≡ kind.Run → ⊥) → HasFront ws (kind_word k ∷ []) → ((d : ℕ) → IsDimension d → HasWord ws 1 (decimal d) → ⊥) → FaultAt ws 1

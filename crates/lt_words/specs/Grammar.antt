@@ -6,7 +6,7 @@ use Rattle.lt_model.specs.Forms.{numbers_of_form}
 use Rattle.lt_model.specs.Limits.{step_limit}
 use Rattle.lt_lattice.specs.Ranges.{IsWithin}
 use Rattle.lt_words.specs.declared.words.Command.{Command}
-use Rattle.lt_words.specs.declared.words.Command.TheVariants.{Principal, Summary, Check, Run, Drill, Locate, Cover, Relevant, Shortest, Merge}
+use Rattle.lt_words.specs.declared.words.Command.TheVariants.{Principal, Summary, Check, Run, Drill, Locate, Cover, Relevant, Shortest}
 use Rattle.lt_words.specs.declared.words.WordsError.{WordsError}
 use Rattle.lt_words.specs.declared.words.WordsError.TheVariants.{Fault}
 use Rattle.lt_words.specs.declared.options.Setting.{Setting}
@@ -67,7 +67,6 @@ InRange (Locate steps q) = IsWalkGiven steps q
 InRange (Cover steps q) = IsWalkGiven steps q
 InRange (Relevant d entry) = IsDimension d × (entry ≤ most_entry)
 InRange (Shortest steps q) = IsWalkGiven steps q
-InRange (Merge d) = IsDimension d
 
 -- ---- what stands behind the word `run`
 
@@ -177,7 +176,6 @@ Spells (Locate steps q) ws = SpellsForm (codes "locate") steps q ws
 Spells (Cover steps q) ws = SpellsForm (codes "cover") steps q ws
 Spells (Relevant d entry) ws = ws ≡ codes "relevant" ∷ decimal d ∷ decimal entry ∷ []
 Spells (Shortest steps q) ws = SpellsForm (codes "shortest") steps q ws
-Spells (Merge d) ws = ws ≡ codes "merge" ∷ decimal d ∷ []
 
 -- the words are those of a command
 abbrev pub IsAccepted : List (List ℕ) → Type 0

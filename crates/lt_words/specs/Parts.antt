@@ -21,11 +21,10 @@ kind_word kind.Locate = codes "locate"
 kind_word kind.Cover = codes "cover"
 kind_word kind.Relevant = codes "relevant"
 kind_word kind.Shortest = codes "shortest"
-kind_word kind.Merge = codes "merge"
 
 -- a command with a dimension and nothing else
 abbrev pub IsAlone : Kind → Type 0
-IsAlone k = (k ≡ kind.Principal) ⊎ (k ≡ kind.Check) ⊎ (k ≡ kind.Merge)
+IsAlone k = (k ≡ kind.Principal) ⊎ (k ≡ kind.Check)
 
 -- a command with the number of crossings to a form
 abbrev pub IsOnForm : Kind → Type 0

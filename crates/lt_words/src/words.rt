@@ -62,10 +62,6 @@ pub enum Command {
         steps: u32,
         q: Form,
     },
-    /// `merge D`: two atlases to one, which are read one after the other.
-    Merge {
-        d: u8,
-    },
 }
 
 /// Why words are no command.
@@ -89,7 +85,6 @@ enum Kind {
     Cover,
     Relevant,
     Shortest,
-    Merge,
 }
 
 /// The kind that a word tells.
@@ -107,7 +102,6 @@ fn kind_of(word: &str) -> Option<Kind>
         "cover" => Some(Kind::Cover),
         "relevant" => Some(Kind::Relevant),
         "shortest" => Some(Kind::Shortest),
-        "merge" => Some(Kind::Merge),
         _ => None,
     }
 }
@@ -141,9 +135,6 @@ fn read_command(words: &[&str], kind: Kind) -> Result<Command, WordsError>
             let (steps, q) = read_form(words)?;
             Ok(Command::Shortest { steps, q })
         }
-        Kind::Merge => Ok(Command::Merge {
-            d: read_alone(words)?,
-        }),
     }
 }
 

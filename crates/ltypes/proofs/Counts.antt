@@ -1,5 +1,5 @@
 -- Counts of marks, one mark and one row after the other.
-use Rattle.std.proofs.Common.{◌≡◌, ℕ, zero, suc, ◌+◌, ◌<◌, refl, ap, arith, sym, ◌∙◌, List, [], ◌∷◌, map, length, get_or, take}
+use Rattle.std.proofs.Common.{◌≡◌, ℕ, zero, suc, ◌+◌, ◌<◌, refl, ap, arith, List, [], ◌∷◌, map, length, get_or, take}
 use Rattle.lt_model.specs.Atlases.{Mark, count, count_in}
 use Rattle.ltypes.specs.Summaries.{one_for_each}
 

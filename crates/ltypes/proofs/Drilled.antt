@@ -1,15 +1,14 @@
 -- What a drill finds: its entries match their scrambled images, its text is read again where it isn't too long, and how it ends.
-use Rattle.std.proofs.Common.{◌≡◌, ℕ, zero, suc, ℤ, ◌+◌, ◌*◌, ◌^◌, ◌<◌, ◌≤◌, refl, arith, sym, ap, ◌∙◌, subst, inl, inr, ◌⊎◌, List, [], ◌∷◌, ◌++◌, length, Bool, true, false, cond, length-append}
+use Rattle.std.proofs.Common.{◌≡◌, ℕ, ℤ, ◌+◌, ◌*◌, ◌^◌, ◌<◌, ◌≤◌, refl, arith, sym, ap, ◌∙◌, subst, inl, inr, List, [], ◌++◌, length, Bool, true, false, cond, length-append}
 use Rattle.std.specs.Prelude.{Option, Some, None, Result, MatchOption, is_some, nat_le}
-use Rattle.std.specs.Io.KnownBytes.{Appends}
 use Rattle.std.proofs.lemmas.Bool.{cases_lt}
 use Rattle.lt_io.specs.Bytes.{AppendsFront, Wrote}
 use Rattle.lt_io.specs.Causes.{Rose}
 use Rattle.lt_io.proofs.Compose.{nothing_appended}
-use Rattle.lt_model.specs.Atlases.{Atlas, begin, stuck}
+use Rattle.lt_model.specs.Atlases.{Atlas, begin}
 use Rattle.lt_model.specs.Limits.{input_limit}
 use Rattle.lt_model.specs.Logs.{IsKept}
-use Rattle.lt_model.specs.Matrices.{Carries, AreEquivalent}
+use Rattle.lt_model.specs.Matrices.{AreEquivalent}
 use Rattle.lt_model.specs.Flat.{rows}
 use Rattle.lt_model.specs.Walls.{IsAcross}
 use Rattle.lt_geometry.proofs.Images.{carries_back}
@@ -18,7 +17,7 @@ use Rattle.lt_triang.specs.Kept.{IsTriangulation, dimension_of}
 use Rattle.lt_match.proofs.Tested.{dimension_is}
 use Rattle.lt_drill.specs.Scrambles.{IsScrambleOf}
 use Rattle.lt_read.specs.Laws.{IsOfRun, IsResumed, resumed}
-use Rattle.lt_read.specs.Reading.{HasLeft, AreTaken, IsRead, ReadsAtlas, IsWhyUnread}
+use Rattle.lt_read.specs.Reading.{IsRead, ReadsAtlas, IsWhyUnread}
 use Rattle.lt_read.specs.Refused.{IsFirstRefusal}
 use Rattle.lt_read.specs.declared.refusals.ReadError.TheVariants as read
 use Rattle.lt_read.specs.declared.refusals.Refusal.{Refusal}
@@ -28,8 +27,8 @@ use Rattle.lt_read.proofs.Resumed.{atlases_resumed, start_free}
 use Rattle.lt_text.specs.Texts.{atlas_text}
 use Rattle.lt_words.specs.Grammar.{IsDimension}
 use Rattle.ltypes.specs.declared.status.Cause.{Cause}
-use Rattle.ltypes.specs.declared.status.Cause.TheVariants.{Finished, Done, Unfinished, Words, Refused, Memory, ReadFault, WriteFault}
-use Rattle.ltypes.specs.Changes.{Change, change}
+use Rattle.ltypes.specs.declared.status.Cause.TheVariants.{Refused, Memory}
+use Rattle.ltypes.specs.Changes.{change}
 use Rattle.ltypes.specs.Drills.{IsDrilled, AreDrilled, IsUnread, IsUndrilled, AnswersDrill}
 use Rattle.ltypes.proofs.Ending.{is_run}
 
@@ -131,14 +130,9 @@ as_many a s same = ap (λ (z : Atlas). length z.entries) same
 -- where there is nothing to write, the cause is the answer
 pub undrilled : (d seed turns before now : ℕ) (held : Option (List ℕ)) (cause : Cause) → IsUndrilled d seed turns cause → AnswersDrill d seed turns (change held held before now) cause
 undrilled d seed turns before now held cause (inl e) = subst (λ (c : Cause). AnswersDrill d seed turns (change held held before now) c) (sym e) (nothing_appended held)
-undrilled d seed turns before now held Finished (inr (a, drilled, why)) = absurd why
-undrilled d seed turns before now held Done (inr (a, drilled, why)) = absurd why
-undrilled d seed turns before now held (Unfinished s o) (inr (a, drilled, why)) = absurd why
-undrilled d seed turns before now held (Words place) (inr (a, drilled, why)) = absurd why
 undrilled d seed turns before now held (Refused r) (inr (a, drilled, why)) = (a, drilled, why, nothing_appended held)
 undrilled d seed turns before now held Memory (inr (a, drilled, why)) = nothing_appended held
-undrilled d seed turns before now held ReadFault (inr (a, drilled, why)) = absurd why
-undrilled d seed turns before now held WriteFault (inr (a, drilled, why)) = absurd why
+undrilled d seed turns before now held _ (inr (a, drilled, why)) = absurd why
 
 -- what is written, by another name
 pub told : {T E : Type 0} (a b : Option (List ℕ)) (r : Result T E) (x y : List ℕ) → x ≡ y → Wrote a b r x → Wrote a b r y

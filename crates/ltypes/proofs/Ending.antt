@@ -1,7 +1,6 @@
 -- How a run ends: its atlas is one of the stated run, and the cause tells how far it went.
-use Rattle.std.proofs.Common.{◌≡◌, ℕ, zero, suc, ◌+◌, ◌-◌, ◌<◌, ◌≤◌, refl, arith, sym, ap, ◌∙◌, subst, inl, inr, List, [], length, Bool, true, false}
-use Rattle.std.specs.Io.KnownBytes.{Appends}
-use Rattle.lt_model.specs.Atlases.{Atlas, begin, undo, undo_all, undecided, stuck}
+use Rattle.std.proofs.Common.{◌≡◌, ℕ, zero, suc, ◌-◌, ◌≤◌, refl, arith, sym, ap, ◌∙◌, subst, inr, length, Bool, false}
+use Rattle.lt_model.specs.Atlases.{Atlas, begin, undo, undo_all}
 use Rattle.lt_model.specs.RightAtlases.{IsClosedAtlas}
 use Rattle.lt_model.specs.Logs.{IsKept}
 use Rattle.lt_model.specs.Walls.{IsAcross}
@@ -9,8 +8,7 @@ use Rattle.lt_core.proofs.Crossings.{across_laws}
 use Rattle.lt_core.proofs.Reaching.{closed_atlas, right_atlas_reached}
 use Rattle.lt_crew.specs.Runs.{AreInOrder, AreBelow, AreSettled, IsSettledBelow}
 use Rattle.ltypes.specs.declared.status.Cause.{Cause}
-use Rattle.ltypes.specs.declared.status.Cause.TheVariants.{Finished, Done, Unfinished, Words, Refused, Memory, ReadFault, WriteFault}
-use Rattle.ltypes.specs.Beginnings.{IsBeginning}
+use Rattle.ltypes.specs.declared.status.Cause.TheVariants.{Finished, Unfinished, Memory, WriteFault}
 use Rattle.ltypes.specs.Changes.{Change}
 use Rattle.ltypes.specs.Runs.{IsRun, IsRunHere, IsComplete, AnswersRun, IsEnd}
 use Rattle.ltypes.proofs.Closed.{closed_by_counts, counts_of_closed}
@@ -38,11 +36,8 @@ answers d workers steps resume source out memory a Finished run low kept settled
     let closed = closed_by_counts a kept.right.parts (omega (arith, n)) (omega (arith, n)) in
     let whole = subst (λ (z : ℕ). IsComplete z a) run.run.dimension (complete a low kept closed) in
     (a, run, settled e.0, whole, e.2)
-answers d workers steps resume source out memory a Done run low kept settled e = e
 answers d workers steps resume source out memory a (Unfinished s o) run low kept settled e =
     (a, run, settled e.0, e.2, e.3, (λ c. let n = counts_of_closed a kept.right.parts c in let some = e.1 in omega (arith, n, some)), e.4)
-answers d workers steps resume source out memory a (Words place) run low kept settled e = e
-answers d workers steps resume source out memory a (Refused refusal) run low kept settled e = absurd e
 answers d workers steps resume source out memory a Memory run low kept settled e = inr (a, run, e.1)
-answers d workers steps resume source out memory a ReadFault run low kept settled e = absurd e
 answers d workers steps resume source out memory a WriteFault run low kept settled e = (e.0, (a, run, e.1))
+answers d workers steps resume source out memory a _ run low kept settled e = absurd e

@@ -2,6 +2,7 @@ pub mod Closed
 pub mod Counts
 pub mod Drilled
 pub mod Ending
+pub mod Located
 pub mod Openings
 pub mod Outputs
 pub mod Resuming

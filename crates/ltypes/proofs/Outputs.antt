@@ -1,5 +1,5 @@
 -- The commands that print counts and lists have one output each.
-use Rattle.std.proofs.Common.{◌≡◌, ℕ, zero, suc, ℤ, ◌<◌, ◌≤◌, arith, List, [], ◌∷◌, ◌++◌, length, get_or, map, sym, ap, ap₂, subst, refl, ◌∙◌}
+use Rattle.std.proofs.Common.{◌≡◌, ℕ, zero, suc, ℤ, ◌<◌, ◌≤◌, arith, List, [], ◌∷◌, ◌++◌, length, get_or, sym, ap, ap₂, subst, refl, ◌∙◌}
 use Rattle.std.specs.Prelude.{codes}
 use Rattle.std.proofs.lemmas.List.{length-map}
 use Rattle.lt_model.specs.Order.{simplex_cmp}
@@ -10,14 +10,13 @@ use Rattle.lt_model.specs.Principal.{IsPrincipal, principal_numbers}
 use Rattle.lt_model.proofs.Sets.{same_members, simplex_cmp_total}
 use Rattle.lt_regulator.proofs.Distinct.{one_list}
 use Rattle.lt_model.specs.RightAtlases.{fresh_atlas}
-use Rattle.lt_core.specs.Starts.{IsStarting, first_entry}
+use Rattle.lt_core.specs.Starts.{first_entry}
 use Rattle.lt_grammar.specs.Texts.{Text}
 use Rattle.lt_text.specs.Texts.{class_numbers}
-use Rattle.lt_read.specs.Reading.{IsRead, IsAtlasOf}
+use Rattle.lt_read.specs.Reading.{IsAtlasOf}
 use Rattle.lt_read.proofs.Read.{same_text}
 use Rattle.ltypes.specs.Texts.{type_text}
 use Rattle.ltypes.specs.Summaries.{header, entry_line, entry_summary, entry_summaries, summary_text, check_text, one_for_each}
-use Rattle.ltypes.specs.Outputs.{IsPrincipalText}
 use Rattle.ltypes.specs.Laws.{OnePrincipalText, OneStartingSummary, OneSummaryOfBytes}
 use Rattle.ltypes.proofs.SameFacets.{one_facets}
 use Rattle.ltypes.proofs.Summed.{same_totals}

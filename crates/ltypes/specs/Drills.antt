@@ -14,13 +14,13 @@ use Rattle.lt_crew.specs.Runs.{IsSettledBelow}
 use Rattle.lt_crew.specs.Settled.{IsSettled}
 use Rattle.lt_drill.specs.States.{next_state, answer_at, drawn}
 use Rattle.lt_read.specs.Laws.{resumed}
-use Rattle.lt_read.specs.declared.refusals.Refusal.TheVariants.{TooLong, Syntax, OtherDimension, NotPrincipal, BadOrigin, BadSimplices, BadCone, BadCross, Twin}
+use Rattle.lt_read.specs.declared.refusals.Refusal.TheVariants.{TooLong}
 use Rattle.lt_text.specs.Texts.{atlas_text}
 use Rattle.ltypes.specs.Changes.{Change}
 use Rattle.ltypes.specs.Runs.{IsRun}
 use Rattle.ltypes.specs.Texts.{named}
 use Rattle.ltypes.specs.declared.status.Cause.{Cause}
-use Rattle.ltypes.specs.declared.status.Cause.TheVariants.{Finished, Done, Unfinished, Words, Refused, Memory, ReadFault, WriteFault}
+use Rattle.ltypes.specs.declared.status.Cause.TheVariants.{Done, Refused, Memory, WriteFault}
 
 -- ---- the turns
 
@@ -69,22 +69,9 @@ pub record AreDrilled (d seed turns : ℕ) (a b : Atlas) : Type 0 where
 
 -- why the text of a wasn't read: it is too long, or memory was refused
 abbrev pub IsUnread : ℕ → Atlas → Cause → Type 0
-IsUnread d a Finished = ⊥
-IsUnread d a Done = ⊥
-IsUnread d a (Unfinished s o) = ⊥
-IsUnread d a (Words place) = ⊥
 IsUnread d a (Refused TooLong) = input_limit d < length (atlas_text a)
-IsUnread d a (Refused (Syntax n)) = ⊥
-IsUnread d a (Refused (OtherDimension found)) = ⊥
-IsUnread d a (Refused NotPrincipal) = ⊥
-IsUnread d a (Refused (BadOrigin k)) = ⊥
-IsUnread d a (Refused (BadSimplices k)) = ⊥
-IsUnread d a (Refused (BadCone k row)) = ⊥
-IsUnread d a (Refused (BadCross k facet)) = ⊥
-IsUnread d a (Refused (Twin i j matrix)) = ⊥
 IsUnread d a Memory = Unit {0}
-IsUnread d a ReadFault = ⊥
-IsUnread d a WriteFault = ⊥
+IsUnread d a _ = ⊥
 
 -- why there is nothing to write: the text of the atlas after the turns wasn't read, or memory was refused
 abbrev pub IsUndrilled : (d seed turns : ℕ) → Cause → Type 0
@@ -114,14 +101,11 @@ drill_text d seed turns a b = line (codes "drill") (pos d ∷ pos seed ∷ pos t
 -- the turns is too long, and nothing was written. Memory: nothing was written. As for a run, the certificates of the atlases aren't
 -- fixed, so the lines are those of atlases that are as stated.
 abbrev pub AnswersDrill : (d seed turns : ℕ) → Change → Cause → Type 0
-AnswersDrill d seed turns out Finished = ⊥
 AnswersDrill d seed turns out Done =
     (a : Atlas) × (b : Atlas) × AreDrilled d seed turns a b × Appends out.old out.new (drill_text d seed turns a b)
-AnswersDrill d seed turns out (Unfinished s o) = ⊥
-AnswersDrill d seed turns out (Words place) = ⊥
 AnswersDrill d seed turns out (Refused refusal) =
     (a : Atlas) × IsDrilled d seed turns a × IsUnread d a (Refused refusal) × Appends out.old out.new []
 AnswersDrill d seed turns out Memory = Appends out.old out.new []
-AnswersDrill d seed turns out ReadFault = ⊥
 AnswersDrill d seed turns out WriteFault =
     Rose out.before out.now × ((a : Atlas) × (b : Atlas) × AreDrilled d seed turns a b × AppendsFront out.old out.new (drill_text d seed turns a b))
+AnswersDrill d seed turns out _ = ⊥

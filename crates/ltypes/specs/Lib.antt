@@ -5,5 +5,8 @@ pub mod Summaries
 pub mod Outputs
 pub mod Runs
 pub mod Drills
+pub mod Writings
+pub mod Forms
+pub mod Vectors
 pub mod Answers
 pub mod Laws

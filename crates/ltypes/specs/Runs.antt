@@ -1,9 +1,9 @@
 -- What a run writes, and when each of its answers comes.
-use Rattle.std.specs.Prelude.{◌≡◌, ◌⊎◌, ℕ, ◌+◌, ◌<◌, ◌≤◌, List, [], length, Bool, true, false}
+use Rattle.std.specs.Prelude.{◌≡◌, ◌⊎◌, ℕ, ◌+◌, ◌<◌, [], length, Bool, true, false}
 use Rattle.std.specs.Io.KnownBytes.{Appends}
 use Rattle.lt_io.specs.Causes.{Rose}
 use Rattle.lt_io.specs.Bytes.{AppendsFront}
-use Rattle.lt_model.specs.Atlases.{Classes, Atlas, begin, entry_at, event_at, undecided, stuck}
+use Rattle.lt_model.specs.Atlases.{Classes, Atlas, begin, entry_at, undecided, stuck}
 use Rattle.lt_model.specs.RightAtlases.{IsClosedAtlas}
 use Rattle.lt_model.specs.Logs.{IsKept}
 use Rattle.lt_model.specs.Reached.{IsReached}
@@ -14,7 +14,7 @@ use Rattle.lt_text.specs.Texts.{atlas_text}
 use Rattle.ltypes.specs.Beginnings.{IsBeginning, HasNoBeginning}
 use Rattle.ltypes.specs.Changes.{Change}
 use Rattle.ltypes.specs.declared.status.Cause.{Cause}
-use Rattle.ltypes.specs.declared.status.Cause.TheVariants.{Finished, Done, Unfinished, Words, Refused, Memory, ReadFault, WriteFault}
+use Rattle.ltypes.specs.declared.status.Cause.TheVariants.{Finished, Unfinished, Refused, Memory, ReadFault, WriteFault}
 
 -- The atlas a of a run of dimension d from the atlas s: it is right and has a legal log, it begins with s, and each event of its log
 -- stands at a position below the step limit and is what settling its position gives: a mark names the first entry onto which a matrix
@@ -47,27 +47,23 @@ pub record IsRunHere (d workers steps : ℕ) (resume : Bool) (source : Change) (
 abbrev pub AnswersRun : ℕ → ℕ → ℕ → Bool → Change → Change → Cause → Type 0
 AnswersRun d workers steps resume source out Finished =
     (a : Atlas) × IsRunHere d workers steps resume source a × IsSettledBelow steps a × IsComplete d a × Appends out.old out.new (atlas_text a)
-AnswersRun d workers steps resume source out Done = ⊥
 AnswersRun d workers steps resume source out (Unfinished s o) =
     (a : Atlas) × IsRunHere d workers steps resume source a × IsSettledBelow steps a × (s ≡ stuck a.marks) × (o ≡ undecided a.marks)
     × (IsClosedAtlas a → ⊥) × Appends out.old out.new (atlas_text a)
-AnswersRun d workers steps resume source out (Words place) = ⊥
 AnswersRun d workers steps resume source out (Refused refusal) = HasNoBeginning d resume source (Refused refusal) × Appends out.old out.new []
 AnswersRun d workers steps resume source out Memory =
     Appends out.old out.new [] ⊎ ((a : Atlas) × IsRunHere d workers steps resume source a × Appends out.old out.new (atlas_text a))
 AnswersRun d workers steps resume source out ReadFault = HasNoBeginning d resume source ReadFault × Appends out.old out.new []
 AnswersRun d workers steps resume source out WriteFault =
     Rose out.before out.now × ((a : Atlas) × IsRunHere d workers steps resume source a × AppendsFront out.old out.new (atlas_text a))
+AnswersRun d workers steps resume source out _ = ⊥
 
 -- How a run that ended with the atlas a, or for want of memory, is told: out gained the text of a, or its count rose and it gained a
 -- front of it.
 abbrev pub IsEnd : Bool → Atlas → Change → Cause → Type 0
 IsEnd memory a out Finished = (memory ≡ false) × (undecided a.marks + stuck a.marks ≡ 0) × Appends out.old out.new (atlas_text a)
-IsEnd memory a out Done = ⊥
 IsEnd memory a out (Unfinished s o) =
     (memory ≡ false) × (0 < undecided a.marks + stuck a.marks) × (s ≡ stuck a.marks) × (o ≡ undecided a.marks) × Appends out.old out.new (atlas_text a)
-IsEnd memory a out (Words place) = ⊥
-IsEnd memory a out (Refused refusal) = ⊥
 IsEnd memory a out Memory = (memory ≡ true) × Appends out.old out.new (atlas_text a)
-IsEnd memory a out ReadFault = ⊥
 IsEnd memory a out WriteFault = Rose out.before out.now × AppendsFront out.old out.new (atlas_text a)
+IsEnd memory a out _ = ⊥

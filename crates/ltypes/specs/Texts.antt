@@ -3,7 +3,9 @@ use Rattle.std.specs.Prelude.{ℕ, ℤ, pos, List, [], ◌∷◌, ◌++◌, code
 use Rattle.lt_lines.specs.Lines.{behind_spaces, line}
 use Rattle.lt_text.specs.Texts.{triangulation_text}
 use Rattle.ltypes.specs.declared.status.Cause.{Cause}
-use Rattle.ltypes.specs.declared.status.Cause.TheVariants.{Finished, Done, Unfinished, Words, Refused, Memory, ReadFault, WriteFault}
+use Rattle.ltypes.specs.declared.status.Cause.TheVariants.{Finished, Done, Unfinished, Words, Refused, Memory, ReadFault, WriteFault, NotPositive, OnWall, Walked, LongEdge, NoEntry}
+use Rattle.lt_locate.specs.declared.answers.WalkStop.{WalkStop}
+use Rattle.lt_locate.specs.declared.answers.WalkStop.TheVariants as walk
 use Rattle.lt_read.specs.declared.refusals.Refusal.{Refusal}
 use Rattle.lt_read.specs.declared.refusals.Refusal.TheVariants.{TooLong, Syntax, OtherDimension, NotPrincipal, BadOrigin, BadSimplices, BadCone, BadCross, Twin}
 
@@ -25,6 +27,11 @@ code_of (Refused refusal) = 3
 code_of Memory = 4
 code_of ReadFault = 5
 code_of WriteFault = 6
+code_of (NotPositive x) = 7
+code_of (OnWall facet) = 8
+code_of (Walked after why) = 9
+code_of (LongEdge x length) = 10
+code_of (NoEntry entries) = 11
 
 -- the numbers of wide and heavy marks, and of open ones
 abbrev pub unfinished_line : ℕ → ℕ → List ℕ
@@ -50,6 +57,19 @@ refusal_text (BadCone k row) = pair_text (codes "refused: cone") k row
 refusal_text (BadCross k facet) = pair_text (codes "refused: cross") k facet
 refusal_text (Twin i j matrix) = twin_text i j matrix
 
+-- the number of crossings of a walk, and why it stopped
+abbrev pub stop_part : WalkStop → List ℕ
+stop_part walk.Steps = line (codes ": steps") []
+stop_part (walk.Wide span) = line (codes ": wide") (span ∷ [])
+stop_part (walk.Heavy weight) = line (codes ": heavy") (weight ∷ [])
+
+abbrev pub walked_line : ℕ → WalkStop → List ℕ
+walked_line after why = named (codes "stopped after") after ++ stop_part why
+
+-- an edge and its value
+abbrev pub long_edge_line : List ℤ → ℤ → List ℕ
+long_edge_line x length = codes "long edge:" ++ behind_spaces x ++ line [] (length ∷ [])
+
 -- the line of a cause; Finished and Done have none
 abbrev pub err_text : Cause → List ℕ
 err_text Finished = []
@@ -60,3 +80,8 @@ err_text (Refused refusal) = refusal_text refusal
 err_text Memory = line (codes "memory") []
 err_text ReadFault = line (codes "read fault") []
 err_text WriteFault = line (codes "write fault") []
+err_text (NotPositive x) = line (codes "not positive:") x
+err_text (OnWall facet) = line (codes "on wall:") facet
+err_text (Walked after why) = walked_line after why
+err_text (LongEdge x length) = long_edge_line x length
+err_text (NoEntry entries) = line (codes "no entry") (pos entries ∷ [])

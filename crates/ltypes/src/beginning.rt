@@ -12,7 +12,7 @@ use lt_read::{ReadError, read_atlas};
 use std::alloc::Global;
 
 /// The atlas that the source spells, with all checks.
-fn resumed<S: Source>(alloc: Global, d: u8, source: &mut S) -> Result<Atlas, Cause>
+pub fn resumed<S: Source>(alloc: Global, d: u8, source: &mut S) -> Result<Atlas, Cause>
     requires { IsDimension d }
     ensures begins { IfOk result (IsBeginning d true
         (change (S.left source.old) (S.left source.new) (S.faults source.old) (S.faults source.new))) }

@@ -6,14 +6,17 @@ ghost use Rattle.ltypes.specs.Changes.{change};
 ghost use Rattle.ltypes.specs.Texts.{code_of, err_text};
 ghost use Rattle.ltypes.specs.declared.status.Cause.TheVariants.{Words};
 ghost use Rattle.ltypes.specs.Outputs.{IsPrincipalText};
-ghost use Rattle.ltypes.specs.Answers.{Reports, Answers, AnswersCommand, AnswersWords, reads};
+ghost use Rattle.ltypes.specs.Answers.{AnswersCommand, AnswersWords, reads};
+ghost use Rattle.ltypes.specs.Writings.{Reports, Answers};
 ghost use Rattle.ltypes.specs.Laws.{OnePrincipalText, OneStartingSummary, OneSummaryOfBytes};
 
 use crate::drill::drill_command;
+use crate::forms::{cover_command, locate_command, shortest_command};
 use crate::printed::write_type;
 use crate::reading::{check_command, summary_command};
 use crate::run::{run_alone_command, run_command};
 use crate::status::{Cause, Status};
+use crate::vectors::relevant_command;
 use lt_crew::Gate;
 use lt_io::{Failed, Sink, Source};
 use lt_principal::{principal, principal_form};
@@ -86,6 +89,10 @@ fn carry_out<R: Threads + Wait + Sync, S: Source, K: Sink, E: Sink, G: Gate>(
             }
         }
         Command::Drill { d, seed, length } => drill_command(alloc, d, seed, length, out, err),
+        Command::Locate { steps, q } => locate_command(alloc, &q, steps, out, err),
+        Command::Cover { steps, q } => cover_command(alloc, &q, steps, out, err),
+        Command::Relevant { d, entry } => relevant_command(alloc, d, entry, source, out, err),
+        Command::Shortest { steps, q } => shortest_command(alloc, &q, steps, out, err),
     }
 }
 
@@ -102,7 +109,7 @@ fn refuse<E: Sink>(error: WordsError, err: &mut E) -> Status
 
 /// The program on the words behind its name: it reads them, does what they say, and answers how it ends.
 ///
-/// The output of the command goes to `out`, and the line of the cause to `err`. The source is read by `check` and where the words say
+/// The output of the command goes to `out`, and the line of the cause to `err`. The source is read by `check`, by `relevant`, and where the words say
 /// `--resume`. Only `run` with two or more workers starts threads, waits, and passes the gate.
 pub fn ltypes<R: Threads + Wait + Sync, S: Source, K: Sink, E: Sink, G: Gate>(
     rt: &R,

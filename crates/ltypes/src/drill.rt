@@ -9,7 +9,7 @@ ghost use Rattle.lt_read.specs.Laws.{IsOfRun, resumed};
 ghost use Rattle.lt_text.specs.Texts.{atlas_text};
 ghost use Rattle.lt_triang.specs.Kept.{IsOfSomeForm};
 ghost use Rattle.lt_words.specs.Grammar.{IsDimension, most_turns};
-ghost use Rattle.ltypes.specs.Answers.{Reports};
+ghost use Rattle.ltypes.specs.Writings.{Reports};
 ghost use Rattle.ltypes.specs.Changes.{change};
 ghost use Rattle.ltypes.specs.Drills.{AreDrilled, IsUnread, IsUndrilled, start_text, end_text, drill_text, AnswersDrill};
 ghost use Rattle.ltypes.specs.Texts.{code_of, err_text};

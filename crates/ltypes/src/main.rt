@@ -4,6 +4,7 @@
 mod beginning;
 mod command;
 mod drill;
+mod forms;
 mod printed;
 mod reading;
 mod refused;
@@ -12,9 +13,11 @@ mod status;
 mod summary;
 mod totals;
 mod turns;
+mod vectors;
 
 pub use command::{ltypes, outputs_are_exact, principal_command};
 pub use drill::drill_command;
+pub use forms::{cover_command, locate_command, shortest_command};
 use lt_crew::OpenGate;
 use lt_io::{LineSink, StdSink, StdSource};
 pub use reading::{check_command, summary_command};
@@ -23,6 +26,7 @@ pub use status::{Cause, Status};
 use std::env;
 use std::io::ErrorKind;
 use std::process::ExitCode;
+pub use vectors::relevant_command;
 
 /// The status where memory for the list of words is refused.
 const MEMORY: u8 = 4;

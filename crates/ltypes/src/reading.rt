@@ -2,7 +2,8 @@
 
 ghost use Rattle.std.specs.Prelude.{◌≡◌, true, false};
 ghost use Rattle.lt_words.specs.Grammar.{IsDimension};
-ghost use Rattle.ltypes.specs.Answers.{AnswersOn, Reports};
+ghost use Rattle.ltypes.specs.Answers.{AnswersOn};
+ghost use Rattle.ltypes.specs.Writings.{Reports};
 ghost use Rattle.ltypes.specs.Changes.{change};
 ghost use Rattle.ltypes.specs.Summaries.{check_text, summary_text};
 ghost use Rattle.ltypes.specs.Texts.{code_of, err_text};

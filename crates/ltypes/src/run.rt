@@ -6,7 +6,7 @@ ghost use Rattle.lt_model.specs.Limits.{step_limit};
 ghost use Rattle.lt_words.specs.Grammar.{IsDimension, most_workers};
 ghost use Rattle.ltypes.specs.Changes.{change};
 ghost use Rattle.ltypes.specs.Texts.{code_of, err_text};
-ghost use Rattle.ltypes.specs.Answers.{Reports};
+ghost use Rattle.ltypes.specs.Writings.{Reports};
 ghost use Rattle.ltypes.specs.Runs.{AnswersRun, IsEnd};
 ghost use Rattle.ltypes.specs.Laws.{NarrowRunsFinish, RunsAreResumed};
 ghost use Rattle.ltypes.specs.declared.status.Cause.TheVariants.{Finished, Unfinished, Memory};

@@ -1,14 +1,16 @@
 ghost use Rattle.std.specs.Prelude.{◌≡◌};
 ghost use Rattle.lt_io.specs.Causes.{HasCause};
 ghost use Rattle.lt_io.specs.Bytes.{Wrote};
-ghost use Rattle.ltypes.specs.Texts.{code_of, err_text, unfinished_line};
-ghost use Rattle.ltypes.specs.Answers.{Reports};
+ghost use Rattle.ltypes.specs.Texts.{code_of, err_text, unfinished_line, stop_part, walked_line, long_edge_line};
+ghost use Rattle.ltypes.specs.Writings.{Reports};
 ghost use Rattle.ltypes.specs.Changes.{change};
 
-use crate::printed::write_named;
+use crate::printed::{write_coordinates, write_named, write_named_number, write_named_point};
 use crate::refused::write_refusal;
-use lt_io::{Failed, Sink};
+use lt_io::{Failed, Sink, write_all};
+use lt_lattice::{Normal, Point};
 use lt_lines::{write_count, write_line};
+use lt_locate::WalkStop;
 use lt_read::Refusal;
 
 /// Why the program ends. The number of each stands at `Status::code`.
@@ -37,6 +39,35 @@ pub enum Cause {
     ReadFault,
     /// The sink for the output failed.
     WriteFault,
+    /// The form isn't positive definite.
+    NotPositive {
+        /// The first edge at which its value isn't positive.
+        x: Point,
+    },
+    /// The form lies on a wall.
+    OnWall {
+        /// The first facet that is 0 there.
+        facet: Normal,
+    },
+    /// The walk to the form stopped on the way.
+    Walked {
+        /// The number of crossings until then.
+        after: u32,
+        /// Why.
+        why: WalkStop,
+    },
+    /// An edge of the triangulation of the form is too long for its covering radius.
+    LongEdge {
+        /// The first edge with a value above the span limit.
+        x: Point,
+        /// Its value.
+        length: i128,
+    },
+    /// The atlas has no entry with the number.
+    NoEntry {
+        /// The number of its entries.
+        entries: u32,
+    },
 }
 
 /// How the program ends.
@@ -56,6 +87,37 @@ fn write_unfinished<E: Sink>(err: &mut E, stuck: u64, undecided: u64) -> Result<
     write_count(err, b" undecided", undecided)
 }
 
+/// Writes why a walk stopped, to the end of the line.
+fn write_stop<E: Sink>(err: &mut E, why: &WalkStop) -> Result<(), Failed>
+    ensures bytes { Wrote (E.held err.old) (E.held err.new) result (stop_part why.now) }
+    ensures cause { HasCause (E.faults err.old) (E.faults err.new) result }
+{
+    match why {
+        WalkStop::Steps => write_line(err, b": steps", &[]),
+        WalkStop::Wide { span } => write_line(err, b": wide", &[i128::from(*span)]),
+        WalkStop::Heavy { weight } => write_line(err, b": heavy", &[*weight]),
+    }
+}
+
+/// Writes the line of a walk that stopped.
+fn write_walked<E: Sink>(err: &mut E, after: u32, why: &WalkStop) -> Result<(), Failed>
+    ensures bytes { Wrote (E.held err.old) (E.held err.new) result (walked_line after why.now) }
+    ensures cause { HasCause (E.faults err.old) (E.faults err.new) result }
+{
+    write_named(err, b"stopped after", after as u64)?;
+    write_stop(err, why)
+}
+
+/// Writes the line of an edge that is too long.
+fn write_long_edge<E: Sink>(err: &mut E, x: &Point, length: &i128) -> Result<(), Failed>
+    ensures bytes { Wrote (E.held err.old) (E.held err.new) result (long_edge_line x.now length.now) }
+    ensures cause { HasCause (E.faults err.old) (E.faults err.new) result }
+{
+    write_all(err, b"long edge:")?;
+    write_coordinates(err, x)?;
+    write_named_number(err, b"", length)
+}
+
 impl Cause {
     /// The number of the cause.
     pub fn code(&self) -> u8
@@ -69,6 +131,11 @@ impl Cause {
             Cause::Memory => 4,
             Cause::ReadFault => 5,
             Cause::WriteFault => 6,
+            Cause::NotPositive { .. } => 7,
+            Cause::OnWall { .. } => 8,
+            Cause::Walked { .. } => 9,
+            Cause::LongEdge { .. } => 10,
+            Cause::NoEntry { .. } => 11,
         }
     }
 
@@ -85,6 +152,11 @@ impl Cause {
             Cause::Memory => write_line(err, b"memory", &[]),
             Cause::ReadFault => write_line(err, b"read fault", &[]),
             Cause::WriteFault => write_line(err, b"write fault", &[]),
+            Cause::NotPositive { x } => write_named_point(err, b"not positive:", x),
+            Cause::OnWall { facet } => write_line(err, b"on wall:", facet.numbers()),
+            Cause::Walked { after, why } => write_walked(err, *after, why),
+            Cause::LongEdge { x, length } => write_long_edge(err, x, length),
+            Cause::NoEntry { entries } => write_count(err, b"no entry", *entries as u64),
         }
     }
 

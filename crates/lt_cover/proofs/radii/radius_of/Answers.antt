@@ -46,8 +46,8 @@ half-requires-clause-small c =
     let b = c.combination-solution.ensures.below in
     rw (kept_den c.combination-solution.result.den c.combination-solution.result.nums.items b) (small_den c.combination-solution.result.den c.combination-solution.result.nums.items b)
 
-pub returns : goal.returns
-returns c =
+pub returns-clause-radius : goal.returns-clause-radius
+returns-clause-radius c =
     let q = c.args.q.now in
     let s = c.args.class.now in
     let den = c.combination-solution.result.den in

@@ -1,4 +1,4 @@
-use Rattle.std.proofs.Common.{◌≡◌, ◌∙◌, ℕ, sym, ap, subst, arith, inl, inr, refl}
+use Rattle.std.proofs.Common.{ℕ, subst, arith}
 use Rattle.lt_words.proofs.Ranges.{few_turns}
 use Rattle.ltypes.specs.Drills.{IsDrilled}
 use Rattle.ltypes.proofs.Drilled.{drilled_run, are_drilled, unrun, as_many}

@@ -1,4 +1,4 @@
-use Rattle.std.proofs.Common.{sym, ◌∙◌, subst}
+use Rattle.std.proofs.Common.{sym, ◌∙◌}
 use Rattle.ltypes.proofs.Drilled.{image_matches}
 use Rattle.ltypes.proofs.drill.is_matched.Goals as goal
 

@@ -1,4 +1,4 @@
-use Rattle.std.proofs.Common.{◌≡◌, ◌<◌, length, arith, sym, subst}
+use Rattle.std.proofs.Common.{◌<◌, length, arith, sym, subst}
 use Rattle.lt_model.specs.Atlases.{Entry}
 use Rattle.lt_triang.specs.Kept.{IsOfSomeForm}
 use Rattle.lt_crew.proofs.Places.{entry_delaunay}

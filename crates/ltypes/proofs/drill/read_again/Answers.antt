@@ -1,4 +1,4 @@
-use Rattle.std.proofs.Common.{◌≡◌, ◌<◌, ◌∙◌, ap, subst, arith, List, ℕ, [], length}
+use Rattle.std.proofs.Common.{◌≡◌, ◌<◌, ◌∙◌, ap, subst, arith, ℕ, [], length}
 use Rattle.std.specs.Prelude.{Some}
 use Rattle.lt_io.specs.Streams.{Outgoing}
 use Rattle.lt_text.specs.Texts.{atlas_text}

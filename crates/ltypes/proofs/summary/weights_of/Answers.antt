@@ -1,4 +1,4 @@
-use Rattle.std.proofs.Common.{arith, ◌≡◌, ◌<◌, ◌≤◌, ◌^◌, ◌+◌, ℤ, ℕ, pos, suc, sym, ◌∙◌, subst, ap, map, take, length, get_or, List, [], ◌∷◌, ◌++◌}
+use Rattle.std.proofs.Common.{arith, ◌≡◌, ◌<◌, ℤ, pos, sym, ◌∙◌, subst, ap, length, [], ◌∷◌, ◌++◌}
 use Rattle.lt_model.specs.Atlases.{Entry, entry_at}
 use Rattle.lt_core.specs.Marks.{entry_of}
 use Rattle.lt_model.specs.Cones.{normals}
@@ -7,7 +7,7 @@ use Rattle.lt_tableau.specs.Errors.{AreOfDimension}
 use Rattle.lt_regulator.proofs.Distinct.{regulator_lengths}
 use Rattle.lt_core.proofs.Crossings.{across_laws}
 use Rattle.lt_core.proofs.Reaching.{entry_form}
-use Rattle.ltypes.specs.Summaries.{weight_of, entry_weights}
+use Rattle.ltypes.specs.Summaries.{weight_of}
 use Rattle.ltypes.proofs.Summed.{same_weight, next_weight}
 use Rattle.ltypes.proofs.summary.weights_of.Goals as goal
 

@@ -1,11 +1,10 @@
-use Rattle.std.proofs.Common.{arith, add-one, ap₂, ◌≡◌, ◌<◌, ◌+◌, ℤ, ℕ, pos, suc, sym, ◌∙◌, subst, ap, map, length, get_or, List, []}
+use Rattle.std.proofs.Common.{arith, add-one, ap₂, ◌<◌, ℕ, suc, sym, subst, length, get_or, List, []}
 use Rattle.std.proofs.lemmas.Result.{err_from_is_err_and}
 use Rattle.std.specs.Io.KnownBytes.{Appends}
 use Rattle.lt_io.specs.Bytes.{AppendsFront}
 use Rattle.lt_io.proofs.Compose.{wrote_front, front_of_more, appended_then, appended_then_front}
 use Rattle.lt_model.specs.Atlases.{Entry, Mark, entry_at}
-use Rattle.lt_core.specs.Marks.{entry_of, mark_of}
-use Rattle.ltypes.specs.Summaries.{weight_of, entry_summary, entry_summaries}
+use Rattle.ltypes.specs.Summaries.{entry_summary, entry_summaries}
 use Rattle.ltypes.proofs.Summed.{summaries_split, weight_there}
 use Rattle.ltypes.proofs.summary.write_entries.Goals as goal
 

@@ -1,4 +1,4 @@
-use Rattle.std.proofs.Common.{arith, add-one, ◌≡◌, ◌<◌, ◌+◌, ◌^◌, suc, sym, ◌∙◌, ap, map, length, get_or, List, []}
+use Rattle.std.proofs.Common.{arith, add-one, ◌≡◌, ◌<◌, ◌^◌, sym, ◌∙◌, ap, length, get_or, List, []}
 use Rattle.std.proofs.lemmas.List.{length-map}
 use Rattle.lt_model.specs.Atlases.{Mark, count_in, one_if_crossed}
 use Rattle.lt_core.specs.Marks.{mark_of}

@@ -1,5 +1,5 @@
-use Rattle.std.proofs.Common.{arith, add-one, ◌≡◌, ◌+◌, suc, map, take, length}
-use Rattle.lt_model.specs.Atlases.{count_in, one_if_open}
+use Rattle.std.proofs.Common.{arith, add-one}
+use Rattle.lt_model.specs.Atlases.{one_if_open}
 use Rattle.lt_core.specs.Marks.{mark_of}
 use Rattle.ltypes.proofs.Counts.{count_in_more}
 use Rattle.ltypes.proofs.totals.undecided_in.Goals as goal

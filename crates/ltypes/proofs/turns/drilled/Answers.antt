@@ -1,4 +1,4 @@
-use Rattle.std.proofs.Common.{◌≡◌, ◌≤◌, ℕ, ◌+◌, arith, sym, ◌∙◌, subst, inl, inr}
+use Rattle.std.proofs.Common.{◌≡◌, ℕ, ◌+◌, arith, sym, ◌∙◌, subst, inl, inr}
 use Rattle.lt_words.proofs.Ranges.{few_turns}
 use Rattle.ltypes.specs.Drills.{open_positions}
 use Rattle.ltypes.proofs.Openings.{none_undecided}

@@ -1,0 +1,4 @@
+mod Filtered
+mod Parities
+mod Values
+mod Unique

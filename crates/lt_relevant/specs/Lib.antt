@@ -1,0 +1,3 @@
+pub mod Relevant
+pub mod Shortest
+pub mod Laws

@@ -1,0 +1,41 @@
+use Rattle.std.proofs.Common.{[], ◌∷◌, ◌++◌}
+use Rattle.std.specs.Prelude.{codes}
+use Rattle.std.proofs.lemmas.Result.{err_from_is_err_and}
+use Rattle.lt_io.proofs.Compose.{wrote_front, wrote_then, front_of_more, appended_then, appended_then_front}
+use Rattle.lt_lines.specs.Lines.{behind_spaces, numbers_line}
+use Rattle.ltypes.proofs.forms.write_radius.Goals as goal
+
+pub returns-in_err-write_all-clause-bytes : goal.returns-in_err-write_all-clause-bytes
+returns-in_err-write_all-clause-bytes g c =
+    let A0 = codes "radius" in
+    let A1 = behind_spaces (c.args.radius.now.num ∷ []) in
+    let A2 = codes "/" in
+    let A3 = numbers_line (c.args.radius.now.den ∷ []) in
+    let p = err_from_is_err_and c.from_residual.result c.from_residual.ensures.1 in
+    wrote_front _ _ _ _ _ p.1 (front_of_more _ _ (A0 ++ A1 ++ A2) A3 (front_of_more _ _ (A0 ++ A1) A2 (front_of_more _ _ (A0) A1 c.in_err-write_all.ensures.bytes.front)))
+
+pub returns-in_err-write_numerator-clause-bytes : goal.returns-in_err-write_numerator-clause-bytes
+returns-in_err-write_numerator-clause-bytes g c =
+    let A0 = codes "radius" in
+    let A1 = behind_spaces (c.args.radius.now.num ∷ []) in
+    let A2 = codes "/" in
+    let A3 = numbers_line (c.args.radius.now.den ∷ []) in
+    let p = err_from_is_err_and c.from_residual-in_err-write_numerator.result c.from_residual-in_err-write_numerator.ensures.1 in
+    wrote_front _ _ _ _ _ p.1 (front_of_more _ _ (A0 ++ A1 ++ A2) A3 (front_of_more _ _ (A0 ++ A1) A2 (appended_then_front _ _ _ (A0) A1 c.in_ok-write_all.ensures.bytes.whole c.in_err-write_numerator.ensures.bytes.front)))
+
+pub returns-in_err-write_all-2-clause-bytes : goal.returns-in_err-write_all-2-clause-bytes
+returns-in_err-write_all-2-clause-bytes g c =
+    let A0 = codes "radius" in
+    let A1 = behind_spaces (c.args.radius.now.num ∷ []) in
+    let A2 = codes "/" in
+    let A3 = numbers_line (c.args.radius.now.den ∷ []) in
+    let p = err_from_is_err_and c.from_residual-in_err-write_all-2.result c.from_residual-in_err-write_all-2.ensures.1 in
+    wrote_front _ _ _ _ _ p.1 (front_of_more _ _ (A0 ++ A1 ++ A2) A3 (appended_then_front _ _ _ (A0 ++ A1) A2 (appended_then _ _ _ (A0) A1 c.in_ok-write_all.ensures.bytes.whole c.in_ok-write_numerator.ensures.bytes.whole) c.in_err-write_all-2.ensures.bytes.front))
+
+pub returns-clause-bytes : goal.returns-clause-bytes
+returns-clause-bytes g c =
+    let A0 = codes "radius" in
+    let A1 = behind_spaces (c.args.radius.now.num ∷ []) in
+    let A2 = codes "/" in
+    let A3 = numbers_line (c.args.radius.now.den ∷ []) in
+    wrote_then _ _ _ _ (A0 ++ A1 ++ A2) A3 (appended_then _ _ _ (A0 ++ A1) A2 (appended_then _ _ _ (A0) A1 c.in_ok-write_all.ensures.bytes.whole c.in_ok-write_numerator.ensures.bytes.whole) c.in_ok-write_all-2.ensures.bytes.whole) c.write_denominator.ensures.bytes

@@ -1,0 +1,29 @@
+use Rattle.std.proofs.Common.{[], ◌∷◌, ◌++◌}
+use Rattle.std.specs.Prelude.{codes}
+use Rattle.std.proofs.lemmas.Result.{err_from_is_err_and}
+use Rattle.lt_io.proofs.Compose.{wrote_front, wrote_then, front_of_more, appended_then, appended_then_front}
+use Rattle.lt_lines.specs.Lines.{line, behind_spaces}
+use Rattle.ltypes.proofs.status.write_long_edge.Goals as goal
+
+pub returns-in_err-write_all-clause-bytes : goal.returns-in_err-write_all-clause-bytes
+returns-in_err-write_all-clause-bytes g c =
+    let A0 = codes "long edge:" in
+    let A1 = behind_spaces c.args.x.now in
+    let A2 = line [] (c.args.length.now ∷ []) in
+    let p = err_from_is_err_and c.from_residual.result c.from_residual.ensures.1 in
+    wrote_front _ _ _ _ _ p.1 (front_of_more _ _ (A0 ++ A1) A2 (front_of_more _ _ (A0) A1 c.in_err-write_all.ensures.bytes.front))
+
+pub returns-in_err-write_coordinates-clause-bytes : goal.returns-in_err-write_coordinates-clause-bytes
+returns-in_err-write_coordinates-clause-bytes g c =
+    let A0 = codes "long edge:" in
+    let A1 = behind_spaces c.args.x.now in
+    let A2 = line [] (c.args.length.now ∷ []) in
+    let p = err_from_is_err_and c.from_residual-in_err-write_coordinates.result c.from_residual-in_err-write_coordinates.ensures.1 in
+    wrote_front _ _ _ _ _ p.1 (front_of_more _ _ (A0 ++ A1) A2 (appended_then_front _ _ _ (A0) A1 c.in_ok-write_all.ensures.bytes.whole c.in_err-write_coordinates.ensures.bytes.front))
+
+pub returns-clause-bytes : goal.returns-clause-bytes
+returns-clause-bytes g c =
+    let A0 = codes "long edge:" in
+    let A1 = behind_spaces c.args.x.now in
+    let A2 = line [] (c.args.length.now ∷ []) in
+    wrote_then _ _ _ _ (A0 ++ A1) A2 (appended_then _ _ _ (A0) A1 c.in_ok-write_all.ensures.bytes.whole c.in_ok-write_coordinates.ensures.bytes.whole) c.write_named_number.ensures.bytes
