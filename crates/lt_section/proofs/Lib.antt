@@ -1,0 +1,12 @@
+mod SortedNormals
+mod Restricted
+mod Filling
+mod RestrictedLists
+mod Lowering
+mod CombinedNumbers
+mod RowLists
+mod Fronts
+mod Telling
+mod Sectioned
+mod SectionWalls
+mod Weighing
