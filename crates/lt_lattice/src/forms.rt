@@ -69,6 +69,13 @@ impl Form {
     }
 }
 
+impl Default for Form {
+    /// The form 0 in 2 variables.
+    fn default() -> Self {
+        Form::of(2, &[0, 0, 0])
+    }
+}
+
 /// The products `x_i x_j` with `i <= j`, in the order of a form's numbers.
 fn products(x: &[i32]) -> ArrayVec<i128, 21>
     requires few { length x.now ≤ 6 }

@@ -80,7 +80,7 @@ crossings_fault ws k d on r has none =
     let e = f.5 in none f.0 f.2 (w.0, w.1 ∙ cc))
 
 -- one more number does not stand behind some
-pub number_fault : (ws : List (List ℕ)) (k : Kind) (d s place : ℕ) → IsOnForm k → IsDimension d → s ≤ most_crossings → HasFront ws (kind_word k ∷ decimal d ∷ decimal s ∷ []) → IsCut ws 3 d most_of_form place → FaultAt ws place
+pub number_fault : (ws : List (List ℕ)) (k : Kind) (d s place : ℕ) → IsOnForm k → IsDimension d → s ≤ most_crossings → HasFront ws (kind_word k ∷ decimal d ∷ decimal s ∷ []) → IsCut ws 3 (numbers_of_form d) most_of_form place → FaultAt ws place
 number_fault ws k d s place on r few has cut =
     let zs = cut.numbers in
     let m = numbers_of_form d - length zs in

@@ -1,18 +1,20 @@
 -- Words have a fault at one place at most, and are one command at most.
-use Rattle.std.proofs.Common.{◌≡◌, ℕ, suc, ℤ, map, ◌+◌, ◌<◌, ◌≤◌, Bool, true, false, List, [], ◌∷◌, ◌++◌, take, drop, codes, refl, inl, inr, sym, ap, subst, ◌∙◌, arith, append_assoc}
+use Rattle.std.proofs.Common.{◌≡◌, ℕ, suc, ℤ, map, ◌+◌, ◌<◌, ◌≤◌, Bool, true, false, List, [], ◌∷◌, ◌++◌, length, take, drop, codes, refl, inl, inr, sym, ap, subst, ◌∙◌, arith, append_assoc}
 use Rattle.std.proofs.lemmas.List.{take-append-drop, take-take}
 use Rattle.std.proofs.lemmas.Fmt.{decimal_injective}
 use Rattle.std.specs.Fmt.{decimal, signed_decimal}
-use Rattle.std.specs.List.{All}
+use Rattle.std.specs.List.{All, flat_map}
+use Rattle.lt_model.specs.Forms.{numbers_of_form}
 use Rattle.lt_lattice.specs.Ranges.{IsWithin}
 use Rattle.lt_scan.proofs.Numerals.{one_spelling}
 use Rattle.lt_words.specs.declared.words.Command.{Command}
-use Rattle.lt_words.specs.declared.words.Command.TheVariants.{Principal, Summary, Check, Run, Drill, Locate, Cover, Relevant, Shortest}
+use Rattle.lt_words.specs.declared.words.Command.TheVariants.{Principal, Summary, Check, Run, Drill, Locate, Cover, Relevant, Shortest, Section, Merge}
 use Rattle.lt_words.specs.declared.options.Setting.TheVariants.{Workers, Steps}
 use Rattle.lt_words.specs.declared.options.Part.TheVariants.{Dimension, Resume, Ending, Named, Joined}
-use Rattle.lt_words.specs.Grammar.{InRange, Item, dimension, setting, resuming, ending, setting_word, AreSpellings, numbers, times, IsChosen, MakeRun, SpellsForm, Spells, Begins, FaultAt, most_crossings, most_of_form}
+use Rattle.lt_words.specs.Grammar.{InRange, Item, dimension, setting, resuming, ending, setting_word, AreSpellings, numbers, times, IsChosen, MakeRun, SpellsForm, SpellsForms, Spells, Begins, FaultAt, most_crossings, most_of_form, most_in_section}
 use Rattle.lt_words.specs.Parts.{part_word}
 use Rattle.lt_model.specs.Limits.{step_limit}
+use Rattle.lt_words.proofs.Chunks.{all_in_chunks, few_numbers, joined_parts}
 use Rattle.lt_words.proofs.Decimals.{same_dimension}
 use Rattle.lt_words.proofs.Ends.{no_items}
 use Rattle.lt_words.proofs.Ranges.{few_turns}
@@ -106,6 +108,32 @@ same_form w s t x y ws few less small tiny f g =
     let h = g.words in
     (decimal_injective s t (omega (arith, few)) (omega (arith, less)) (cc), same_integers x y small tiny (cc))
 
+-- lists of one length that are joined to one list are the same
+same_pieces : (n : ℕ) (fs gs : List (List ℤ)) → All (λ q. length q ≡ n) fs → All (λ q. length q ≡ n) gs → length fs ≡ length gs → flat_map (λ q. q) fs ≡ flat_map (λ q. q) gs → fs ≡ gs
+same_pieces n [] [] long tall count e = refl
+same_pieces n [] (g ∷ gs) long tall count e = absurd (omega (arith, count))
+same_pieces n (f ∷ fs) [] long tall count e = absurd (omega (arith, count))
+same_pieces n (f ∷ fs) (g ∷ gs) long tall count e =
+    let here : length f ≡ length g = omega (arith, long 0 [] (omega arith), tall 0 [] (omega arith)) in
+    let (first, behind) = joined_parts f g (flat_map (λ (q : List ℤ). q) fs) (flat_map (λ (q : List ℤ). q) gs) here e in
+    let rest = same_pieces n fs gs (λ k d lt. long (suc k) d (omega (arith, lt))) (λ k d lt. tall (suc k) d (omega (arith, lt))) (omega (arith, count)) behind in
+    cc
+
+same_forms : (s t : ℕ) (x y : List (List ℤ)) (ws : List (List ℕ)) → s ≤ most_crossings → t ≤ most_crossings → All (All (IsWithin most_in_section)) x → All (All (IsWithin most_in_section)) y → SpellsForms s x ws → SpellsForms t y ws → (s ≡ t) × (x ≡ y)
+same_forms s t x y ws few less small tiny f g =
+    let e = f.words in
+    let h = g.words in
+    let most : most_in_section ≤ most_of_form = omega arith in
+    let d : f.d ≡ g.d = same_dimension f.d g.d f.dimension g.dimension (cc) in
+    let count : length x ≡ length y = decimal_injective (length x) (length y) (omega (arith, f.few, few_numbers f.d f.dimension)) (omega (arith, g.few, few_numbers g.d g.dimension)) (cc) in
+    let joined = same_integers (flat_map (λ q. q) x) (flat_map (λ q. q) y) (wider (flat_map (λ q. q) x) (all_in_chunks most_in_section x small)) (wider (flat_map (λ q. q) y) (all_in_chunks most_in_section y tiny)) (cc) in (
+      decimal_injective s t (omega (arith, few)) (omega (arith, less)) (cc),
+      same_pieces (numbers_of_form f.d) x y f.numbers (subst (λ n. All (λ q. length q ≡ numbers_of_form n) y) (sym d) g.numbers) count joined,
+    )
+  where
+    wider : (zs : List ℤ) → All (IsWithin most_in_section) zs → All (IsWithin most_of_form) zs
+    wider zs all = λ k d lt. let a = all k d lt in omega (arith, a)
+
 same_commands : (c c' : Command) (ws : List (List ℕ)) → kind_of c ≡ kind_of c' → InRange c → InRange c' → Spells c ws → Spells c' ws → c ≡ c'
 same_commands (Principal d) (Principal e) ws k r q f g = ap (λ n. Principal n) (same_dimension d e r q (cc))
 same_commands (Check d) (Check e) ws k r q f g = ap (λ n. Check n) (same_dimension d e r q (cc))
@@ -129,6 +157,10 @@ same_commands (Relevant d i) (Relevant e j) ws k (r, few) (q, less) f g =
     cc
 same_commands (Shortest s x) (Shortest t y) ws k (few, small) (less, tiny) f g =
     let (steps, forms) = same_form (codes "shortest") s t x y ws few less small tiny f g in cc
+same_commands (Section s x) (Section t y) ws k (few, small) (less, tiny) f g =
+    let (steps, forms) = same_forms s t x.items y.items ws few less small tiny f g in
+    ap (λ n. Section n x) steps ∙ ap (λ (z : List (List ℤ)). Section t (record { items = z })) forms
+same_commands (Merge d) (Merge e) ws k r q f g = ap (λ n. Merge n) (same_dimension d e r q (cc))
 same_commands _ _ ws k r q f g = absurd (cc)
 
 -- words spell one command at most

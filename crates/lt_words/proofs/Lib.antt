@@ -1,7 +1,9 @@
 pub mod Alone
+pub mod Chunks
 pub mod Decimals
 pub mod Ends
 pub mod FormWords
+pub mod FormsWords
 pub mod Fronts
 pub mod Goings
 pub mod Joins

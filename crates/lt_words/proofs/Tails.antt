@@ -1,23 +1,23 @@
 -- What stands behind the first word of a command but `run`, and where its faults are.
-use Rattle.std.proofs.Common.{◌≡◌, ℕ, zero, suc, ℤ, pos, ◌+◌, ◌*◌, ◌<◌, ◌≤◌, ◌^◌, Bool, true, false, cond, eqb, List, [], ◌∷◌, ◌++◌, ◌⊎◌, inl, inr, length, map, get_or, codes, Result, IfErr, refl, sym, ap, ◌∙◌, subst, arith, length-append}
+use Rattle.std.proofs.Common.{◌≡◌, ℕ, ℤ, pos, ◌+◌, ◌*◌, ◌<◌, ◌≤◌, ◌^◌, Bool, true, false, cond, eqb, List, [], ◌∷◌, ◌++◌, ◌⊎◌, inl, inr, length, map, get_or, codes, Result, IfErr, refl, sym, ap, ◌∙◌, subst, arith, length-append}
 use Rattle.std.proofs.lemmas.Bool.{cases_lt}
 use Rattle.std.proofs.lemmas.List.{get_or-map}
-use Rattle.std.proofs.lemmas.List.Elements.{All-from_get_or}
 use Rattle.std.proofs.lemmas.Result.{err_from_is_err_and}
 use Rattle.std.specs.Result.{IsErrAnd}
 use denote.Ref.{Bor}
 use Rattle.std.specs.Fmt.{decimal, signed_decimal}
-use Rattle.std.specs.List.{All}
+use Rattle.std.specs.List.{All, flat_map}
 use Rattle.lt_model.specs.Forms.{numbers_of_form}
 use Rattle.lt_lattice.specs.Ranges.{IsWithin}
 use Rattle.lt_words.specs.declared.words.Command.{Command}
-use Rattle.lt_words.specs.declared.words.Command.TheVariants.{Principal, Summary, Check, Run, Drill, Locate, Cover, Relevant, Shortest}
+use Rattle.lt_words.specs.declared.words.Command.TheVariants.{Principal, Summary, Check, Run, Drill, Locate, Cover, Relevant, Shortest, Section, Merge}
 use Rattle.lt_words.specs.declared.words.WordsError.{WordsError}
 use Rattle.lt_words.specs.declared.words.WordsError.TheVariants.{Fault}
 use Rattle.lt_words.specs.declared.words.Kind.{Kind}
 use Rattle.lt_words.specs.declared.words.Kind.TheVariants as kind
-use Rattle.lt_words.specs.Grammar.{texts, place_of, most_turns, most_crossings, most_of_form, most_entry, IsDimension, InRange, Spells, IsAccepted, FaultAt}
+use Rattle.lt_words.specs.Grammar.{texts, place_of, most_turns, most_crossings, most_of_form, most_in_section, most_entry, IsDimension, InRange, Spells, IsAccepted, FaultAt}
 use Rattle.lt_words.specs.Parts.{kind_word, HasFront, HasWord}
+use Rattle.lt_words.proofs.Chunks.{chunks, chunks_joined, length_of_chunks, chunks_long, chunks_within, length-chunks, all_in_chunks, zeros_within}
 use Rattle.lt_words.proofs.Decimals.{same_dimension}
 use Rattle.lt_words.proofs.Fronts.{begins, front_alone, longer, fault_at_end, fault_at_word}
 
@@ -33,6 +33,8 @@ kind_of (Locate s q) = kind.Locate
 kind_of (Cover s q) = kind.Cover
 kind_of (Relevant d e) = kind.Relevant
 kind_of (Shortest s q) = kind.Shortest
+kind_of (Section s fs) = kind.Section
+kind_of (Merge d) = kind.Merge
 
 -- a command begins with the word of its kind
 pub first_word : (c : Command) (ws : List (List ℕ)) → Spells c ws → (rest : List (List ℕ)) × (ws ≡ kind_word (kind_of c) ∷ rest)
@@ -45,13 +47,15 @@ first_word (Locate s q) ws p = (decimal p.d ∷ decimal s ∷ map signed_decimal
 first_word (Cover s q) ws p = (decimal p.d ∷ decimal s ∷ map signed_decimal q, p.words)
 first_word (Relevant d k) ws e = (decimal d ∷ decimal k ∷ [], e)
 first_word (Shortest s q) ws p = (decimal p.d ∷ decimal s ∷ map signed_decimal q, p.words)
+first_word (Section s fs) ws p = (decimal p.d ∷ decimal s ∷ decimal (length fs.items) ∷ map signed_decimal (flat_map (λ q. q) fs.items), p.words)
+first_word (Merge d) ws e = (decimal d ∷ [], e)
 
 -- a number that the first and the third byte of a word give
 key : List ℕ → ℕ
 key w = get_or w 0 0 + 3 * get_or w 2 0
 
 kind_at : ℕ → Kind
-kind_at n = cond (eqb n 427) kind.Principal (cond (eqb n 442) kind.Summary (cond (eqb n 402) kind.Check (cond (eqb n 415) kind.Drill (cond (eqb n 405) kind.Locate (cond (eqb n 453) kind.Cover (cond (eqb n 438) kind.Relevant (cond (eqb n 448) kind.Shortest kind.Run)))))))
+kind_at n = cond (eqb n 427) kind.Principal (cond (eqb n 442) kind.Summary (cond (eqb n 402) kind.Check (cond (eqb n 415) kind.Drill (cond (eqb n 405) kind.Locate (cond (eqb n 453) kind.Cover (cond (eqb n 438) kind.Relevant (cond (eqb n 448) kind.Shortest (cond (eqb n 412) kind.Section (cond (eqb n 451) kind.Merge kind.Run)))))))))
 
 kind_again : (k : Kind) → kind_at (key (kind_word k)) ≡ k
 unfolding kind_at key
@@ -64,6 +68,8 @@ kind_again kind.Locate = refl
 kind_again kind.Cover = refl
 kind_again kind.Relevant = refl
 kind_again kind.Shortest = refl
+kind_again kind.Section = refl
+kind_again kind.Merge = refl
 
 -- kinds have different words
 pub same_kind : (k l : Kind) → kind_word k ≡ kind_word l → k ≡ l
@@ -76,6 +82,12 @@ abbrev pub IsFormEnd : ℕ → List (List ℕ) → Type 0
 IsFormEnd d ts =
     (s : ℕ) × (q : List ℤ) × (s ≤ most_crossings) × (length q ≡ numbers_of_form d) × All (IsWithin most_of_form) q × (ts ≡ decimal s ∷ map signed_decimal q)
 
+-- the number of crossings, the number of forms, and their numbers
+abbrev pub IsFormsEnd : ℕ → List (List ℕ) → Type 0
+IsFormsEnd d ts =
+    (s : ℕ) × (m : ℕ) × (zs : List ℤ) × (s ≤ most_crossings) × (0 < m) × (m ≤ numbers_of_form d) × (length zs ≡ m * numbers_of_form d)
+    × All (IsWithin most_in_section) zs × (ts ≡ decimal s ∷ decimal m ∷ map signed_decimal zs)
+
 -- what stands behind the dimension
 abbrev pub IsEnd : ℕ → Kind → List (List ℕ) → Type 0
 IsEnd d kind.Principal ts = ts ≡ []
@@ -87,6 +99,8 @@ IsEnd d kind.Locate ts = IsFormEnd d ts
 IsEnd d kind.Cover ts = IsFormEnd d ts
 IsEnd d kind.Relevant ts = (k : ℕ) × (k ≤ most_entry) × (ts ≡ decimal k ∷ [])
 IsEnd d kind.Shortest ts = IsFormEnd d ts
+IsEnd d kind.Section ts = IsFormsEnd d ts
+IsEnd d kind.Merge ts = ts ≡ []
 
 -- what stands behind the first word
 abbrev IsTail : Kind → List (List ℕ) → Type 0
@@ -103,6 +117,17 @@ tail_of (Locate s q) ts (few, small) p other = let e = p.words in (p.d, decimal 
 tail_of (Cover s q) ts (few, small) p other = let e = p.words in (p.d, decimal s ∷ map signed_decimal q, p.dimension, cc, (s, q, few, p.numbers, small, refl))
 tail_of (Relevant d k) ts (r, few) e other = (d, decimal k ∷ [], r, cc, (k, few, refl))
 tail_of (Shortest s q) ts (few, small) p other = let e = p.words in (p.d, decimal s ∷ map signed_decimal q, p.dimension, cc, (s, q, few, p.numbers, small, refl))
+tail_of (Section s fs) ts (few, small) p other =
+    let e = p.words in
+    let n = numbers_of_form p.d in
+    let zs = flat_map (λ q. q) fs.items in (
+      p.d,
+      decimal s ∷ decimal (length fs.items) ∷ map signed_decimal zs,
+      p.dimension,
+      cc,
+      (s, length fs.items, zs, few, p.some, p.few, length-chunks n fs.items p.numbers, all_in_chunks most_in_section fs.items small, refl),
+    )
+tail_of (Merge d) ts r e other = (d, [], r, cc, refl)
 
 tail : (k : Kind) (ts : List (List ℕ)) → (k ≡ kind.Run → ⊥) → IsAccepted (kind_word k ∷ ts) → IsTail k ts
 tail k ts other (c, r, s) =
@@ -134,6 +159,23 @@ accepts kind.Shortest ts (d, end, r, e, (s, q, few, numbers, small, is)) = (
   (few, small),
   record { d = d; dimension = r; numbers = numbers; words = ap (λ m. codes "shortest" ∷ m) (e ∙ ap (λ m. decimal d ∷ m) is) },
 )
+accepts kind.Section ts (d, end, r, e, (s, m, zs, few, some, most, long, small, is)) =
+    let n = numbers_of_form d in
+    let whole : flat_map (λ q. q) (chunks n m zs) ≡ zs = chunks_joined n m zs long in
+    let count : length (chunks n m zs) ≡ m = length_of_chunks n m zs in (
+      Section s (record { items = chunks n m zs }),
+      (few, chunks_within n m zs most_in_section long small),
+      record {
+        d = d;
+        dimension = r;
+        some = subst (λ k. 0 < k) (sym count) some;
+        few = subst (λ k. k ≤ n) (sym count) most;
+        numbers = chunks_long n m zs long;
+        words = ap (λ l. codes "section" ∷ l) (e ∙ ap (λ l. decimal d ∷ l) is) ∙ ap (λ k. codes "section" ∷ decimal d ∷ decimal s ∷ decimal k ∷ map signed_decimal zs) (sym count)
+            ∙ ap (λ l. codes "section" ∷ decimal d ∷ decimal s ∷ decimal (length (chunks n m zs)) ∷ map signed_decimal l) (sym whole);
+      },
+    )
+accepts kind.Merge ts (d, end, r, e, is) = (Merge d, r, ap (λ l. codes "merge" ∷ l) (e ∙ ap (λ l. decimal d ∷ l) is))
 
 -- ---- faults
 
@@ -151,16 +193,13 @@ tail_fault ws k front more other has goes outside here =
 -- no crossings, and a form of zeros
 zero_form : (end : List (List ℕ)) × IsFormEnd 2 end
 zero_form =
-    let zero = pos 0 ∷ pos 0 ∷ pos 0 ∷ [] in (
-      decimal 0 ∷ map signed_decimal zero,
-      (0, zero, omega arith, refl, All-from_get_or {X = ℤ} (IsWithin most_of_form) zero (pos 0) small, refl),
-    )
-  where
-    small : (i : ℕ) → i < 3 → IsWithin most_of_form (get_or (pos 0 ∷ pos 0 ∷ pos 0 ∷ []) i (pos 0))
-    small zero lt = omega arith
-    small (suc zero) lt = omega arith
-    small (suc (suc zero)) lt = omega arith
-    small (suc (suc (suc i))) lt = absurd (omega (arith, lt))
+    let zero = pos 0 ∷ pos 0 ∷ pos 0 ∷ [] in (decimal 0 ∷ map signed_decimal zero, (0, zero, omega arith, refl, zeros_within 3, refl))
+
+-- no crossings, and one form of zeros
+zero_section : (end : List (List ℕ)) × IsFormsEnd 2 end
+zero_section =
+    let zero = pos 0 ∷ pos 0 ∷ pos 0 ∷ [] in
+    (decimal 0 ∷ decimal 1 ∷ map signed_decimal zero, (0, 1, zero, omega arith, omega arith, omega arith, refl, zeros_within 3, refl))
 
 some_end : (k : Kind) → (k ≡ kind.Run → ⊥) → (end : List (List ℕ)) × IsEnd 2 k end
 some_end kind.Principal other = ([], refl)
@@ -172,6 +211,8 @@ some_end kind.Locate other = zero_form
 some_end kind.Cover other = zero_form
 some_end kind.Relevant other = (decimal 0 ∷ [], (0, omega arith, refl))
 some_end kind.Shortest other = zero_form
+some_end kind.Section other = zero_section
+some_end kind.Merge other = ([], refl)
 
 -- no dimension stands behind the first word
 pub dimension_fault : (ws : List (List ℕ)) (k : Kind) → (k ≡ kind.Run → ⊥) → HasFront ws (kind_word k ∷ []) → ((d : ℕ) → IsDimension d → HasWord ws 1 (decimal d) → ⊥) → FaultAt ws 1
@@ -267,22 +308,23 @@ other_kind ws some other =
 
 -- ---- answers
 
--- the fault that is answered at the exit of a `?`, as a caller's
-pub fault_above : (r : Result Command WordsError) (e : WordsError) (ws : List (List ℕ)) → IsErrAnd r (λ y. y ≡ e) → FaultAt ws (place_of e) → IfErr r (λ y. FaultAt ws (place_of y))
-fault_above r e ws at fault =
+-- what is said of an error at the exit of a `?`
+pub answer_at_exit : {X : Type 0} (r : Result X WordsError) (e : WordsError) (Says : WordsError → Type 0) → IsErrAnd r (λ y. y ≡ e) → Says e → IfErr r Says
+answer_at_exit {X} r e Says at is =
     let p = err_from_is_err_and r at in
-    subst (λ x. IfErr x (λ y. FaultAt ws (place_of y))) (sym p.1) (subst (λ y. FaultAt ws (place_of y)) (sym p.2) fault)
+    subst (λ x. IfErr x Says) (sym p.1) (subst Says (sym p.2) is)
+
+-- the fault that is answered at the exit of a `?`, as a caller's
+pub fault_above : {X : Type 0} (r : Result X WordsError) (e : WordsError) (ws : List (List ℕ)) → IsErrAnd r (λ y. y ≡ e) → FaultAt ws (place_of e) → IfErr r (λ y. FaultAt ws (place_of y))
+fault_above {X} r e ws at fault = answer_at_exit r e (λ y. FaultAt ws (place_of y)) at fault
 
 -- the fault that is answered at the exit of a `?`
-pub fault_at_exit : (r : Result Command WordsError) (e : WordsError) (ws : List (List ℕ)) (place : ℕ) → IsErrAnd r (λ y. y ≡ e) → e ≡ Fault place → FaultAt ws place → IfErr r (λ y. FaultAt ws (place_of y))
-fault_at_exit r e ws place at is fault = fault_above r e ws at (subst (λ y. FaultAt ws (place_of y)) (sym is) fault)
+pub fault_at_exit : {X : Type 0} (r : Result X WordsError) (e : WordsError) (ws : List (List ℕ)) (place : ℕ) → IsErrAnd r (λ y. y ≡ e) → e ≡ Fault place → FaultAt ws place → IfErr r (λ y. FaultAt ws (place_of y))
+fault_at_exit {X} r e ws place at is fault = fault_above r e ws at (subst (λ y. FaultAt ws (place_of y)) (sym is) fault)
 
 -- the same for commands of some kinds
 pub cut_at_exit : {X : Type 0} {Is : Kind → Type 0} (r : Result X WordsError) (e : WordsError) (ws : List (List ℕ)) → IsErrAnd r (λ y. y ≡ e) → ((k : Kind) → Is k → HasFront ws (kind_word k ∷ []) → FaultAt ws (place_of e)) → IfErr r (λ y. (k : Kind) → Is k → HasFront ws (kind_word k ∷ []) → FaultAt ws (place_of y))
-cut_at_exit {X} {Is} r e ws at fault =
-    let p = err_from_is_err_and r at in
-    let all = λ (y : WordsError). (k : Kind) → Is k → HasFront ws (kind_word k ∷ []) → FaultAt ws (place_of y) in
-    subst (λ x. IfErr x all) (sym p.1) (subst all (sym p.2) fault)
+cut_at_exit {X} {Is} r e ws at fault = answer_at_exit r e (λ y. (k : Kind) → Is k → HasFront ws (kind_word k ∷ []) → FaultAt ws (place_of y)) at fault
 
 pub place_at_exit : {X : Type 0} {Is : Kind → Type 0} (r : Result X WordsError) (e : WordsError) (ws : List (List ℕ)) (place : ℕ) → IsErrAnd r (λ y. y ≡ e) → e ≡ Fault place → ((k : Kind) → Is k → HasFront ws (kind_word k ∷ []) → FaultAt ws place) → IfErr r (λ y. (k : Kind) → Is k → HasFront ws (kind_word k ∷ []) → FaultAt ws (place_of y))
 place_at_exit {X} {Is} r e ws place at is fault =

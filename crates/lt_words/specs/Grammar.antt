@@ -1,12 +1,12 @@
 -- The words of the command line.
 use Rattle.std.specs.Prelude.{◌≡◌, ℕ, ℤ, suc, ◌+◌, ◌^◌, ◌<◌, ◌≤◌, Bool, true, false, cond, List, [], ◌∷◌, ◌++◌, ◌⊎◌, nat_le, length, take, map, codes}
 use Rattle.std.specs.Fmt.{decimal, signed_decimal}
-use Rattle.std.specs.List.{All}
+use Rattle.std.specs.List.{All, flat_map}
 use Rattle.lt_model.specs.Forms.{numbers_of_form}
 use Rattle.lt_model.specs.Limits.{step_limit}
 use Rattle.lt_lattice.specs.Ranges.{IsWithin}
 use Rattle.lt_words.specs.declared.words.Command.{Command}
-use Rattle.lt_words.specs.declared.words.Command.TheVariants.{Principal, Summary, Check, Run, Drill, Locate, Cover, Relevant, Shortest}
+use Rattle.lt_words.specs.declared.words.Command.TheVariants.{Principal, Summary, Check, Run, Drill, Locate, Cover, Relevant, Shortest, Section, Merge}
 use Rattle.lt_words.specs.declared.words.WordsError.{WordsError}
 use Rattle.lt_words.specs.declared.words.WordsError.TheVariants.{Fault}
 use Rattle.lt_words.specs.declared.options.Setting.{Setting}
@@ -43,6 +43,10 @@ most_crossings = 10000
 abbrev pub most_of_form : ℕ
 most_of_form = 2 ^ 40
 
+-- the greatest absolute value of a number of the forms of a section
+abbrev pub most_in_section : ℕ
+most_in_section = 4096
+
 -- the greatest number of an entry
 abbrev pub most_entry : ℕ
 most_entry = 1000000
@@ -67,6 +71,8 @@ InRange (Locate steps q) = IsWalkGiven steps q
 InRange (Cover steps q) = IsWalkGiven steps q
 InRange (Relevant d entry) = IsDimension d × (entry ≤ most_entry)
 InRange (Shortest steps q) = IsWalkGiven steps q
+InRange (Section steps forms) = (steps ≤ most_crossings) × All (All (IsWithin most_in_section)) forms.items
+InRange (Merge d) = IsDimension d
 
 -- ---- what stands behind the word `run`
 
@@ -161,6 +167,16 @@ pub record SpellsForm (word : List ℕ) (steps : ℕ) (q : List ℤ) (ws : List 
   pub numbers : length q ≡ numbers_of_form d
   pub words : ws ≡ word ∷ decimal d ∷ decimal steps ∷ map signed_decimal q
 
+-- the word of a section, the dimension, the number of crossings, the number of forms, one at least and as many at most as a form has
+-- numbers, and the numbers of the forms, one form after the other
+pub record SpellsForms (steps : ℕ) (forms : List (List ℤ)) (ws : List (List ℕ)) : Type 0 where
+  pub d : ℕ
+  pub dimension : IsDimension d
+  pub some : 0 < length forms
+  pub few : length forms ≤ numbers_of_form d
+  pub numbers : All (λ q. length q ≡ numbers_of_form d) forms
+  pub words : ws ≡ codes "section" ∷ decimal d ∷ decimal steps ∷ decimal (length forms) ∷ map signed_decimal (flat_map (λ q. q) forms)
+
 -- ---- commands
 
 -- the words are a spelling of the command
@@ -176,6 +192,8 @@ Spells (Locate steps q) ws = SpellsForm (codes "locate") steps q ws
 Spells (Cover steps q) ws = SpellsForm (codes "cover") steps q ws
 Spells (Relevant d entry) ws = ws ≡ codes "relevant" ∷ decimal d ∷ decimal entry ∷ []
 Spells (Shortest steps q) ws = SpellsForm (codes "shortest") steps q ws
+Spells (Section steps forms) ws = SpellsForms steps forms.items ws
+Spells (Merge d) ws = ws ≡ codes "merge" ∷ decimal d ∷ []
 
 -- the words are those of a command
 abbrev pub IsAccepted : List (List ℕ) → Type 0

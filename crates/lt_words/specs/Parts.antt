@@ -2,7 +2,6 @@
 use Rattle.std.specs.Prelude.{◌≡◌, ◌⊎◌, ℕ, ℤ, ◌+◌, ◌<◌, ◌≤◌, List, [], ◌++◌, length, map, get_or, codes}
 use Rattle.std.specs.Fmt.{decimal, signed_decimal}
 use Rattle.std.specs.List.{All}
-use Rattle.lt_model.specs.Forms.{numbers_of_form}
 use Rattle.lt_lattice.specs.Ranges as ranges
 use Rattle.lt_words.specs.declared.words.Kind.{Kind}
 use Rattle.lt_words.specs.declared.words.Kind.TheVariants as kind
@@ -21,10 +20,12 @@ kind_word kind.Locate = codes "locate"
 kind_word kind.Cover = codes "cover"
 kind_word kind.Relevant = codes "relevant"
 kind_word kind.Shortest = codes "shortest"
+kind_word kind.Section = codes "section"
+kind_word kind.Merge = codes "merge"
 
 -- a command with a dimension and nothing else
 abbrev pub IsAlone : Kind → Type 0
-IsAlone k = (k ≡ kind.Principal) ⊎ (k ≡ kind.Check)
+IsAlone k = (k ≡ kind.Principal) ⊎ (k ≡ kind.Check) ⊎ (k ≡ kind.Merge)
 
 -- a command with the number of crossings to a form
 abbrev pub IsOnForm : Kind → Type 0
@@ -42,10 +43,10 @@ HasWord ws place w = (place < length ws) × (get_or ws place [] ≡ w)
 abbrev pub HasWords : List (List ℕ) → ℕ → List (List ℕ) → Type 0
 HasWords ws place vs = (i : ℕ) → i < length vs → HasWord ws (place + i) (get_or vs i [])
 
--- Numbers of a form in d variables stand from `start` on, but not all of them: at the place stands none.
-pub record IsCut (ws : List (List ℕ)) (start d most place : ℕ) : Type 0 where
+-- Numbers stand from `start` on, but not so many: at the place stands none.
+pub record IsCut (ws : List (List ℕ)) (start count most place : ℕ) : Type 0 where
   pub numbers : List ℤ
-  pub few : length numbers < numbers_of_form d
+  pub few : length numbers < count
   pub within : All (ranges.IsWithin most) numbers
   pub words : HasWords ws start (map signed_decimal numbers)
   pub at : place ≡ start + length numbers

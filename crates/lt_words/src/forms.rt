@@ -1,15 +1,15 @@
 //! What stands behind the word of a command on a form: the dimension, the number of crossings, and the numbers of the form.
 
-ghost use Rattle.std.specs.Prelude.{◌≡◌, ◌≤◌, ◌^◌, ℕ, ℤ, List, [], ◌∷◌, length, map, IfOk, IfErr};
+ghost use Rattle.std.specs.Prelude.{◌≡◌, ◌<◌, ◌≤◌, ◌*◌, ◌^◌, ℕ, ℤ, List, [], ◌∷◌, codes, length, map, IfOk, IfErr};
 ghost use Rattle.std.specs.Fmt.{decimal, signed_decimal};
-ghost use Rattle.std.specs.List.{All};
+ghost use Rattle.std.specs.List.{All, flat_map};
 ghost use Rattle.lt_model.specs.Forms.{numbers_of_form};
 ghost use Rattle.lt_lattice.specs.Ranges.{IsWithin};
 ghost use Rattle.lt_words.specs.declared.words.Kind.{Kind};
-ghost use Rattle.lt_words.specs.Grammar.{texts, IsDimension, SpellsForm, FaultAt, place_of, most_crossings, most_of_form};
+ghost use Rattle.lt_words.specs.Grammar.{texts, IsDimension, SpellsForm, SpellsForms, FaultAt, place_of, most_crossings, most_of_form, most_in_section};
 ghost use Rattle.lt_words.specs.Parts.{HasFront, HasWords, IsCut, IsOnForm, kind_word};
 
-use crate::limits::{MOST_CROSSINGS, MOST_OF_FORM};
+use crate::limits::{MOST_CROSSINGS, MOST_IN_SECTION, MOST_OF_FORM};
 use crate::places::{dimension_at, end_at, integer_at, number_at};
 use crate::words::WordsError;
 use arrayvec::ArrayVec;
@@ -38,7 +38,7 @@ fn form_at(words: &[&str], place: u32, d: u8, most: u64) -> Result<Form, WordsEr
     ensures numbers { IfOk result (λ q. length q ≡ numbers_of_form d) }
     ensures within { IfOk result (λ q. All (IsWithin most) q) }
     ensures found { IfOk result (λ q. HasWords (texts words.now) place (map signed_decimal q)) }
-    ensures cut { IfErr result (λ e. IsCut (texts words.now) place d most (place_of e)) }
+    ensures cut { IfErr result (λ e. IsCut (texts words.now) place (numbers_of_form d) most (place_of e)) }
 {
     let mut numbers: ArrayVec<i128, 21> = ArrayVec::new();
     for i in 0..numbers_of(d) {
@@ -59,4 +59,40 @@ pub fn read_form(words: &[&str]) -> Result<(u32, Form), WordsError>
     let form = form_at(words, 3, d, MOST_OF_FORM)?;
     end_at(words, 3 + form.numbers().len() as u32)?;
     Ok((steps as u32, form))
+}
+
+/// So many forms in `d` variables whose numbers stand from a place on, one form after the other.
+fn forms_at(words: &[&str], place: u32, d: u8, count: u32) -> Result<ArrayVec<Form, 21>, WordsError>
+    requires dimension { IsDimension d }
+    requires near { place ≤ 2 ^ 8 }
+    requires few { count ≤ 21 }
+    ensures count { IfOk result (λ fs. length fs.items ≡ count) }
+    ensures numbers { IfOk result (λ fs. All (λ q. length q ≡ numbers_of_form d) fs.items) }
+    ensures within { IfOk result (λ fs. All (All (IsWithin most_in_section)) fs.items) }
+    ensures found { IfOk result (λ fs. HasWords (texts words.now) place (map signed_decimal (flat_map (λ q. q) fs.items))) }
+    ensures cut { IfErr result (λ e. IsCut (texts words.now) place (count * numbers_of_form d) most_in_section (place_of e)) }
+{
+    let each = numbers_of(d);
+    let mut forms: ArrayVec<Form, 21> = ArrayVec::new();
+    for i in 0..count {
+        forms.push(form_at(words, place + i * each, d, MOST_IN_SECTION)?);
+    }
+    Ok(forms)
+}
+
+/// The number of crossings and the forms of a section.
+pub fn read_forms(words: &[&str]) -> Result<(u32, ArrayVec<Form, 21>), WordsError>
+    requires { HasFront (texts words.now) (codes "section" ∷ []) }
+    ensures crossings { IfOk result (λ p. p.0 ≤ most_crossings) }
+    ensures within { IfOk result (λ p. All (All (IsWithin most_in_section)) p.1.items) }
+    ensures words { IfOk result (λ p. SpellsForms p.0 p.1.items (texts words.now)) }
+    ensures fault { IfErr result (λ e. FaultAt (texts words.now) (place_of e)) }
+{
+    let d = dimension_at(words)?;
+    let steps = number_at(words, 2, 0, MOST_CROSSINGS)?;
+    let each = numbers_of(d);
+    let count = number_at(words, 3, 1, u64::from(each))?;
+    let forms = forms_at(words, 4, d, count as u32)?;
+    end_at(words, 4 + count as u32 * each)?;
+    Ok((steps as u32, forms))
 }

@@ -16,6 +16,9 @@ pub const MOST_ENTRY: u64 = 1_000_000;
 /// The greatest number of crossings of a walk.
 pub const MOST_CROSSINGS: u64 = 10_000;
 
+/// The greatest absolute value of a number of the forms of a section.
+pub const MOST_IN_SECTION: u64 = 4_096;
+
 /// The greatest absolute value of a number of a form.
 pub const MOST_OF_FORM: u64 = 1 << 40;
 

@@ -4,8 +4,9 @@ ghost use Rattle.lt_words.specs.Parts.{HasFront, kind_word};
 ghost use Rattle.lt_words.specs.Laws.{EveryFaultHasOnePlace, NoCommandHasAFault, WordsSpellOneCommand, DrillsKeepTheStepLimit};
 
 use crate::fixed::{read_alone, read_drill, read_relevant, read_summary};
-use crate::forms::read_form;
+use crate::forms::{read_form, read_forms};
 use crate::options::read_run;
+use arrayvec::ArrayVec;
 use lt_lattice::Form;
 use thiserror::Error;
 
@@ -62,6 +63,16 @@ pub enum Command {
         steps: u32,
         q: Form,
     },
+    /// `section D B M` and the numbers of M forms, one form after the other: the secondary cone of the first, cut by the forms. There are
+    /// one form at least and as many at most as a form has numbers. Their numbers are at most 4096 in absolute value.
+    Section {
+        steps: u32,
+        forms: ArrayVec<Form, 21>,
+    },
+    /// `merge D`: two atlases to one, which are read one after the other.
+    Merge {
+        d: u8,
+    },
 }
 
 /// Why words are no command.
@@ -85,6 +96,8 @@ enum Kind {
     Cover,
     Relevant,
     Shortest,
+    Section,
+    Merge,
 }
 
 /// The kind that a word tells.
@@ -102,6 +115,8 @@ fn kind_of(word: &str) -> Option<Kind>
         "cover" => Some(Kind::Cover),
         "relevant" => Some(Kind::Relevant),
         "shortest" => Some(Kind::Shortest),
+        "section" => Some(Kind::Section),
+        "merge" => Some(Kind::Merge),
         _ => None,
     }
 }
@@ -135,6 +150,13 @@ fn read_command(words: &[&str], kind: Kind) -> Result<Command, WordsError>
             let (steps, q) = read_form(words)?;
             Ok(Command::Shortest { steps, q })
         }
+        Kind::Section => {
+            let (steps, forms) = read_forms(words)?;
+            Ok(Command::Section { steps, forms })
+        }
+        Kind::Merge => Ok(Command::Merge {
+            d: read_alone(words)?,
+        }),
     }
 }
 

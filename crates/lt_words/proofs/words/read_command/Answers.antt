@@ -13,7 +13,7 @@ returns-in_err-read_alone-in-Principal-clause-fault c =
 pub returns-in_err-read_alone-in-Check-clause-fault : goal.returns-in_err-read_alone-in-Check-clause-fault
 returns-in_err-read_alone-in-Check-clause-fault c =
     let ws = texts c.args.words.now in
-    fault_above c.from_residual-in_err-read_alone-in-Check.result c.in_err-read_alone-in-Check.field-0.0 ws c.from_residual-in_err-read_alone-in-Check.ensures.1 (c.in_err-read_alone-in-Check.ensures.fault kind.Check (inr refl) (subst (λ k. HasFront ws (kind_word k ∷ [])) c.in-Check.is c.requires))
+    fault_above c.from_residual-in_err-read_alone-in-Check.result c.in_err-read_alone-in-Check.field-0.0 ws c.from_residual-in_err-read_alone-in-Check.ensures.1 (c.in_err-read_alone-in-Check.ensures.fault kind.Check (inr (inl refl)) (subst (λ k. HasFront ws (kind_word k ∷ [])) c.in-Check.is c.requires))
 
 pub returns-in_err-steps-in-Locate-clause-fault : goal.returns-in_err-steps-in-Locate-clause-fault
 returns-in_err-steps-in-Locate-clause-fault c =
@@ -39,3 +39,13 @@ pub returns-in_ok-read_alone-in-Check-clause-command : goal.returns-in_ok-read_a
 returns-in_ok-read_alone-in-Check-clause-command c =
     let ok = c.in_ok-read_alone-in-Check.ensures in
     (ok.dimension, ok.words (kind_word kind.Check) (subst (λ k. HasFront (texts c.args.words.now) (kind_word k ∷ [])) c.in-Check.is c.requires))
+
+pub returns-in_err-read_alone-in-Merge-clause-fault : goal.returns-in_err-read_alone-in-Merge-clause-fault
+returns-in_err-read_alone-in-Merge-clause-fault c =
+    let ws = texts c.args.words.now in
+    fault_above c.from_residual-in_err-read_alone-in-Merge.result c.in_err-read_alone-in-Merge.field-0.0 ws c.from_residual-in_err-read_alone-in-Merge.ensures.1 (c.in_err-read_alone-in-Merge.ensures.fault kind.Merge (inr (inr refl)) (subst (λ k. HasFront ws (kind_word k ∷ [])) c.in-Merge.is c.requires))
+
+pub returns-in_ok-read_alone-in-Merge-clause-command : goal.returns-in_ok-read_alone-in-Merge-clause-command
+returns-in_ok-read_alone-in-Merge-clause-command c =
+    let ok = c.in_ok-read_alone-in-Merge.ensures in
+    (ok.dimension, ok.words (kind_word kind.Merge) (subst (λ k. HasFront (texts c.args.words.now) (kind_word k ∷ [])) c.in-Merge.is c.requires))
