@@ -11,3 +11,5 @@ mod starts;
 
 pub use atlases::{atlases_are_spelt, example_is_spelt, write_atlas};
 pub use classes::{coordinates_of, write_triangulation};
+pub use rows::{Terms, write_terms};
+pub use starts::write_start;

@@ -17,8 +17,8 @@ use lt_lattice::{Form, Normal};
 use lt_lines::write_line;
 use lt_lp::{Cone, Row, Verdict};
 
-/// The terms of a combination.
-type Terms = ArrayVec<(usize, i128), 21>;
+/// The terms of a combination: places and coefficients.
+pub type Terms = ArrayVec<(usize, i128), 21>;
 
 /// The place and the coefficient of each term.
 fn numbers_of(terms: &Terms) -> ArrayVec<i128, 42>
@@ -41,8 +41,9 @@ fn write_facet<K: Sink>(out: &mut K, normal: &Normal, form: &Form) -> Result<(),
     write_line(out, b" wall", form.numbers())
 }
 
-/// Writes the scale and the terms of a combination.
-fn write_terms<K: Sink>(out: &mut K, scale: &i128, terms: &Terms) -> Result<(), Failed>
+/// Writes the scale and the terms of a combination, to the end of the line: ` scale`, the scale, ` terms`, their number, and the place
+/// and the coefficient of each.
+pub fn write_terms<K: Sink>(out: &mut K, scale: &i128, terms: &Terms) -> Result<(), Failed>
     ensures bytes { Wrote (K.held out.old) (K.held out.new) result (combination_part scale.now terms.now.items) }
     ensures cause { HasCause (K.faults out.old) (K.faults out.new) result }
 {

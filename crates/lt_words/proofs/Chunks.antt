@@ -1,12 +1,12 @@
 -- A list of numbers cut into pieces of one length.
-use Rattle.std.proofs.Common.{◌≡◌, ℕ, zero, suc, ℤ, pos, ◌*◌, ◌≤◌, List, [], ◌∷◌, ◌++◌, length, take, drop, refl, sym, ap, ◌∙◌, arith, length-append}
+use Rattle.std.proofs.Common.{◌≡◌, ◌<◌, ℕ, zero, suc, ℤ, pos, ◌*◌, ◌≤◌, List, [], ◌∷◌, ◌++◌, length, get_or, take, drop, refl, sym, ap, ◌∙◌, subst, arith, length-append}
 use Rattle.std.proofs.lemmas.List.{take-append-drop, length-drop, length-take-le, take_at, drop_at}
 use Rattle.std.proofs.lemmas.List.Elements.{All-append, All-cons, All-nil, All-take, All-drop}
 use Rattle.std.specs.List.{All, flat_map}
 use Rattle.lt_model.specs.Vectors.{zeros}
 use Rattle.lt_model.specs.Forms.{numbers_of_form}
 use Rattle.lt_lattice.specs.Ranges.{IsWithin}
-use Rattle.lt_words.specs.Grammar.{IsDimension}
+use Rattle.lt_words.specs.Grammar.{IsDimension, AreGiven, most_in_section}
 
 pub zeros_within : {most : ℕ} (n : ℕ) → All (IsWithin most) (zeros n)
 zeros_within {most} zero = All-nil {X = ℤ} (IsWithin most)
@@ -70,3 +70,9 @@ joined_parts f g xs ys n e = (
   sym (take_at f xs (length g) n) ∙ ap (take (length g)) e ∙ take_at g ys (length g) refl,
   sym (drop_at f xs (length g) n) ∙ ap (drop (length g)) e ∙ drop_at g ys (length g) refl,
 )
+
+-- so many forms with as many numbers are those of a section
+pub given_forms : (n : ℕ) (fs : List (List ℤ)) → 0 < length fs → length fs ≤ n → All (λ q. length q ≡ n) fs → All (All (IsWithin most_in_section)) fs → AreGiven fs
+given_forms n fs some few numbers within =
+    let first : length (get_or fs 0 []) ≡ n = numbers 0 [] some in
+    record { some = some; few = subst (λ k. length fs ≤ k) (sym first) few; same = λ k d lt. numbers k d lt ∙ sym first; within = within }

@@ -11,7 +11,7 @@ use Rattle.lt_words.specs.declared.words.Command.{Command}
 use Rattle.lt_words.specs.declared.words.Command.TheVariants.{Principal, Summary, Check, Run, Drill, Locate, Cover, Relevant, Shortest, Section, Merge}
 use Rattle.lt_words.specs.declared.options.Setting.TheVariants.{Workers, Steps}
 use Rattle.lt_words.specs.declared.options.Part.TheVariants.{Dimension, Resume, Ending, Named, Joined}
-use Rattle.lt_words.specs.Grammar.{InRange, Item, dimension, setting, resuming, ending, setting_word, AreSpellings, numbers, times, IsChosen, MakeRun, SpellsForm, SpellsForms, Spells, Begins, FaultAt, most_crossings, most_of_form, most_in_section}
+use Rattle.lt_words.specs.Grammar.{InRange, Item, dimension, setting, resuming, ending, setting_word, AreSpellings, numbers, times, IsChosen, MakeRun, AreGiven, SpellsForm, SpellsForms, Spells, Begins, FaultAt, most_crossings, most_of_form, most_in_section}
 use Rattle.lt_words.specs.Parts.{part_word}
 use Rattle.lt_model.specs.Limits.{step_limit}
 use Rattle.lt_words.proofs.Chunks.{all_in_chunks, few_numbers, joined_parts}
@@ -119,14 +119,14 @@ same_pieces n (f ∷ fs) (g ∷ gs) long tall count e =
     let rest = same_pieces n fs gs (λ k d lt. long (suc k) d (omega (arith, lt))) (λ k d lt. tall (suc k) d (omega (arith, lt))) (omega (arith, count)) behind in
     cc
 
-same_forms : (s t : ℕ) (x y : List (List ℤ)) (ws : List (List ℕ)) → s ≤ most_crossings → t ≤ most_crossings → All (All (IsWithin most_in_section)) x → All (All (IsWithin most_in_section)) y → SpellsForms s x ws → SpellsForms t y ws → (s ≡ t) × (x ≡ y)
-same_forms s t x y ws few less small tiny f g =
+same_forms : (s t : ℕ) (x y : List (List ℤ)) (ws : List (List ℕ)) → s ≤ most_crossings → t ≤ most_crossings → AreGiven x → AreGiven y → SpellsForms s x ws → SpellsForms t y ws → (s ≡ t) × (x ≡ y)
+same_forms s t x y ws few less given other f g =
     let e = f.words in
     let h = g.words in
     let most : most_in_section ≤ most_of_form = omega arith in
     let d : f.d ≡ g.d = same_dimension f.d g.d f.dimension g.dimension (cc) in
-    let count : length x ≡ length y = decimal_injective (length x) (length y) (omega (arith, f.few, few_numbers f.d f.dimension)) (omega (arith, g.few, few_numbers g.d g.dimension)) (cc) in
-    let joined = same_integers (flat_map (λ q. q) x) (flat_map (λ q. q) y) (wider (flat_map (λ q. q) x) (all_in_chunks most_in_section x small)) (wider (flat_map (λ q. q) y) (all_in_chunks most_in_section y tiny)) (cc) in (
+    let count : length x ≡ length y = decimal_injective (length x) (length y) (omega (arith, given.few, f.numbers 0 [] given.some, few_numbers f.d f.dimension)) (omega (arith, other.few, g.numbers 0 [] other.some, few_numbers g.d g.dimension)) (cc) in
+    let joined = same_integers (flat_map (λ q. q) x) (flat_map (λ q. q) y) (wider (flat_map (λ q. q) x) (all_in_chunks most_in_section x given.within)) (wider (flat_map (λ q. q) y) (all_in_chunks most_in_section y other.within)) (cc) in (
       decimal_injective s t (omega (arith, few)) (omega (arith, less)) (cc),
       same_pieces (numbers_of_form f.d) x y f.numbers (subst (λ n. All (λ q. length q ≡ numbers_of_form n) y) (sym d) g.numbers) count joined,
     )

@@ -17,7 +17,7 @@ use Rattle.lt_words.specs.declared.words.Kind.{Kind}
 use Rattle.lt_words.specs.declared.words.Kind.TheVariants as kind
 use Rattle.lt_words.specs.Grammar.{texts, place_of, most_turns, most_crossings, most_of_form, most_in_section, most_entry, IsDimension, InRange, Spells, IsAccepted, FaultAt}
 use Rattle.lt_words.specs.Parts.{kind_word, HasFront, HasWord}
-use Rattle.lt_words.proofs.Chunks.{chunks, chunks_joined, length_of_chunks, chunks_long, chunks_within, length-chunks, all_in_chunks, zeros_within}
+use Rattle.lt_words.proofs.Chunks.{chunks, chunks_joined, length_of_chunks, chunks_long, chunks_within, length-chunks, all_in_chunks, given_forms, zeros_within}
 use Rattle.lt_words.proofs.Decimals.{same_dimension}
 use Rattle.lt_words.proofs.Fronts.{begins, front_alone, longer, fault_at_end, fault_at_word}
 
@@ -117,15 +117,16 @@ tail_of (Locate s q) ts (few, small) p other = let e = p.words in (p.d, decimal 
 tail_of (Cover s q) ts (few, small) p other = let e = p.words in (p.d, decimal s ∷ map signed_decimal q, p.dimension, cc, (s, q, few, p.numbers, small, refl))
 tail_of (Relevant d k) ts (r, few) e other = (d, decimal k ∷ [], r, cc, (k, few, refl))
 tail_of (Shortest s q) ts (few, small) p other = let e = p.words in (p.d, decimal s ∷ map signed_decimal q, p.dimension, cc, (s, q, few, p.numbers, small, refl))
-tail_of (Section s fs) ts (few, small) p other =
+tail_of (Section s fs) ts (few, given) p other =
     let e = p.words in
     let n = numbers_of_form p.d in
-    let zs = flat_map (λ q. q) fs.items in (
+    let zs = flat_map (λ q. q) fs.items in
+    let first : length (get_or fs.items 0 []) ≡ n = p.numbers 0 [] given.some in (
       p.d,
       decimal s ∷ decimal (length fs.items) ∷ map signed_decimal zs,
       p.dimension,
       cc,
-      (s, length fs.items, zs, few, p.some, p.few, length-chunks n fs.items p.numbers, all_in_chunks most_in_section fs.items small, refl),
+      (s, length fs.items, zs, few, given.some, subst (λ k. length fs.items ≤ k) first given.few, length-chunks n fs.items p.numbers, all_in_chunks most_in_section fs.items given.within, refl),
     )
 tail_of (Merge d) ts r e other = (d, [], r, cc, refl)
 
@@ -161,18 +162,18 @@ accepts kind.Shortest ts (d, end, r, e, (s, q, few, numbers, small, is)) = (
 )
 accepts kind.Section ts (d, end, r, e, (s, m, zs, few, some, most, long, small, is)) =
     let n = numbers_of_form d in
-    let whole : flat_map (λ q. q) (chunks n m zs) ≡ zs = chunks_joined n m zs long in
-    let count : length (chunks n m zs) ≡ m = length_of_chunks n m zs in (
-      Section s (record { items = chunks n m zs }),
-      (few, chunks_within n m zs most_in_section long small),
+    let fs = chunks n m zs in
+    let whole : flat_map (λ q. q) fs ≡ zs = chunks_joined n m zs long in
+    let count : length fs ≡ m = length_of_chunks n m zs in
+    let numbers = chunks_long n m zs long in (
+      Section s (record { items = fs }),
+      (few, given_forms n fs (subst (λ k. 0 < k) (sym count) some) (subst (λ k. k ≤ n) (sym count) most) numbers (chunks_within n m zs most_in_section long small)),
       record {
         d = d;
         dimension = r;
-        some = subst (λ k. 0 < k) (sym count) some;
-        few = subst (λ k. k ≤ n) (sym count) most;
-        numbers = chunks_long n m zs long;
+        numbers = numbers;
         words = ap (λ l. codes "section" ∷ l) (e ∙ ap (λ l. decimal d ∷ l) is) ∙ ap (λ k. codes "section" ∷ decimal d ∷ decimal s ∷ decimal k ∷ map signed_decimal zs) (sym count)
-            ∙ ap (λ l. codes "section" ∷ decimal d ∷ decimal s ∷ decimal (length (chunks n m zs)) ∷ map signed_decimal l) (sym whole);
+            ∙ ap (λ l. codes "section" ∷ decimal d ∷ decimal s ∷ decimal (length fs) ∷ map signed_decimal l) (sym whole);
       },
     )
 accepts kind.Merge ts (d, end, r, e, is) = (Merge d, r, ap (λ l. codes "merge" ∷ l) (e ∙ ap (λ l. decimal d ∷ l) is))

@@ -1,5 +1,5 @@
 -- The words of the command line.
-use Rattle.std.specs.Prelude.{◌≡◌, ℕ, ℤ, suc, ◌+◌, ◌^◌, ◌<◌, ◌≤◌, Bool, true, false, cond, List, [], ◌∷◌, ◌++◌, ◌⊎◌, nat_le, length, take, map, codes}
+use Rattle.std.specs.Prelude.{◌≡◌, ℕ, ℤ, suc, ◌+◌, ◌^◌, ◌<◌, ◌≤◌, Bool, true, false, cond, List, [], ◌∷◌, ◌++◌, ◌⊎◌, nat_le, length, get_or, take, map, codes}
 use Rattle.std.specs.Fmt.{decimal, signed_decimal}
 use Rattle.std.specs.List.{All, flat_map}
 use Rattle.lt_model.specs.Forms.{numbers_of_form}
@@ -55,6 +55,13 @@ most_entry = 1000000
 abbrev pub IsWalkGiven : ℕ → List ℤ → Type 0
 IsWalkGiven steps q = (steps ≤ most_crossings) × All (IsWithin most_of_form) q
 
+-- the forms of a section: one at least, in one number of variables, no more of them than a form has numbers, and with small numbers
+pub record AreGiven (forms : List (List ℤ)) : Type 0 where
+  pub some : 0 < length forms
+  pub few : length forms ≤ length (get_or forms 0 [])
+  pub same : All (λ q. length q ≡ length (get_or forms 0 [])) forms
+  pub within : All (All (IsWithin most_in_section)) forms
+
 -- a number that an option of a run takes in some dimension
 abbrev pub IsInSetting : Setting → ℕ → Type 0
 IsInSetting Workers n = (1 ≤ n) × (n ≤ most_workers)
@@ -71,7 +78,7 @@ InRange (Locate steps q) = IsWalkGiven steps q
 InRange (Cover steps q) = IsWalkGiven steps q
 InRange (Relevant d entry) = IsDimension d × (entry ≤ most_entry)
 InRange (Shortest steps q) = IsWalkGiven steps q
-InRange (Section steps forms) = (steps ≤ most_crossings) × All (All (IsWithin most_in_section)) forms.items
+InRange (Section steps forms) = (steps ≤ most_crossings) × AreGiven forms.items
 InRange (Merge d) = IsDimension d
 
 -- ---- what stands behind the word `run`
@@ -167,13 +174,10 @@ pub record SpellsForm (word : List ℕ) (steps : ℕ) (q : List ℤ) (ws : List 
   pub numbers : length q ≡ numbers_of_form d
   pub words : ws ≡ word ∷ decimal d ∷ decimal steps ∷ map signed_decimal q
 
--- the word of a section, the dimension, the number of crossings, the number of forms, one at least and as many at most as a form has
--- numbers, and the numbers of the forms, one form after the other
+-- the word of a section, the dimension, the number of crossings, the number of forms, and the numbers of the forms, one form after the other
 pub record SpellsForms (steps : ℕ) (forms : List (List ℤ)) (ws : List (List ℕ)) : Type 0 where
   pub d : ℕ
   pub dimension : IsDimension d
-  pub some : 0 < length forms
-  pub few : length forms ≤ numbers_of_form d
   pub numbers : All (λ q. length q ≡ numbers_of_form d) forms
   pub words : ws ≡ codes "section" ∷ decimal d ∷ decimal steps ∷ decimal (length forms) ∷ map signed_decimal (flat_map (λ q. q) forms)
 

@@ -6,7 +6,7 @@ ghost use Rattle.std.specs.List.{All, flat_map};
 ghost use Rattle.lt_model.specs.Forms.{numbers_of_form};
 ghost use Rattle.lt_lattice.specs.Ranges.{IsWithin};
 ghost use Rattle.lt_words.specs.declared.words.Kind.{Kind};
-ghost use Rattle.lt_words.specs.Grammar.{texts, IsDimension, SpellsForm, SpellsForms, FaultAt, place_of, most_crossings, most_of_form, most_in_section};
+ghost use Rattle.lt_words.specs.Grammar.{texts, IsDimension, AreGiven, SpellsForm, SpellsForms, FaultAt, place_of, most_crossings, most_of_form, most_in_section};
 ghost use Rattle.lt_words.specs.Parts.{HasFront, HasWords, IsCut, IsOnForm, kind_word};
 
 use crate::limits::{MOST_CROSSINGS, MOST_IN_SECTION, MOST_OF_FORM};
@@ -84,7 +84,7 @@ fn forms_at(words: &[&str], place: u32, d: u8, count: u32) -> Result<ArrayVec<Fo
 pub fn read_forms(words: &[&str]) -> Result<(u32, ArrayVec<Form, 21>), WordsError>
     requires { HasFront (texts words.now) (codes "section" ∷ []) }
     ensures crossings { IfOk result (λ p. p.0 ≤ most_crossings) }
-    ensures within { IfOk result (λ p. All (All (IsWithin most_in_section)) p.1.items) }
+    ensures given { IfOk result (λ p. AreGiven p.1.items) }
     ensures words { IfOk result (λ p. SpellsForms p.0 p.1.items (texts words.now)) }
     ensures fault { IfErr result (λ e. FaultAt (texts words.now) (place_of e)) }
 {

@@ -5,7 +5,7 @@ use Rattle.lt_io.specs.Causes.{Rose}
 use Rattle.lt_io.specs.Bytes.{AppendsFront}
 use Rattle.lt_model.specs.Atlases.{Atlas}
 use Rattle.lt_words.specs.declared.words.Command.{Command}
-use Rattle.lt_words.specs.declared.words.Command.TheVariants.{Principal, Summary, Check, Run, Drill, Locate, Cover, Relevant, Shortest}
+use Rattle.lt_words.specs.declared.words.Command.TheVariants.{Principal, Summary, Check, Run, Drill, Locate, Cover, Relevant, Shortest, Section, Merge}
 use Rattle.lt_words.specs.Grammar.{InRange, Spells, FaultAt}
 use Rattle.ltypes.specs.declared.status.Cause.{Cause}
 use Rattle.ltypes.specs.declared.status.Cause.TheVariants.{Done, Words, Refused, Memory, ReadFault, WriteFault}
@@ -13,8 +13,10 @@ use Rattle.ltypes.specs.Beginnings.{IsBeginning, HasNoBeginning}
 use Rattle.ltypes.specs.Changes.{Change, IsUntouched}
 use Rattle.ltypes.specs.Drills.{AnswersDrill}
 use Rattle.ltypes.specs.Forms.{AnswersLocate, AnswersCover, AnswersShortest}
+use Rattle.ltypes.specs.Merges.{AnswersMerge}
 use Rattle.ltypes.specs.Outputs.{IsPrincipalText}
 use Rattle.ltypes.specs.Runs.{AnswersRun}
+use Rattle.ltypes.specs.Sections.{AnswersSection}
 use Rattle.ltypes.specs.Summaries.{summary_text, check_text}
 use Rattle.ltypes.specs.Vectors.{AnswersRelevant}
 use Rattle.ltypes.specs.Writings.{Answers}
@@ -41,6 +43,8 @@ AnswersCommand (Locate steps q) source out cause = AnswersLocate steps q out cau
 AnswersCommand (Cover steps q) source out cause = AnswersCover steps q out cause
 AnswersCommand (Relevant d entry) source out cause = AnswersRelevant d entry source out cause
 AnswersCommand (Shortest steps q) source out cause = AnswersShortest steps q out cause
+AnswersCommand (Section steps forms) source out cause = AnswersSection steps forms.items out cause
+AnswersCommand (Merge d) source out cause = AnswersMerge d source out cause
 
 -- whether a command reads the source
 abbrev pub reads : Command → Bool
@@ -53,6 +57,8 @@ reads (Locate steps q) = false
 reads (Cover steps q) = false
 reads (Relevant d entry) = true
 reads (Shortest steps q) = false
+reads (Section steps forms) = false
+reads (Merge d) = true
 
 -- The words are those of a command, whose answer it is, and which reads the source or leaves it as it was; or they are outside the
 -- grammar, the answer is the place of their first fault, nothing was written, and the source is as it was.

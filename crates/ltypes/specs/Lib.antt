@@ -8,5 +8,7 @@ pub mod Drills
 pub mod Writings
 pub mod Forms
 pub mod Vectors
+pub mod Sections
+pub mod Merges
 pub mod Answers
 pub mod Laws

@@ -1,9 +1,12 @@
 -- The lines that commands write to out, and the line that a cause writes to err.
 use Rattle.std.specs.Prelude.{ℕ, ℤ, pos, List, [], ◌∷◌, ◌++◌, codes}
+use Rattle.std.specs.Fmt.{decimal}
+use Rattle.lt_core.specs.Marks.{mark_of}
 use Rattle.lt_lines.specs.Lines.{behind_spaces, line}
+use Rattle.lt_model.specs.Atlases.{Mark, open_mark, cross, wide, heavy}
 use Rattle.lt_text.specs.Texts.{triangulation_text}
 use Rattle.ltypes.specs.declared.status.Cause.{Cause}
-use Rattle.ltypes.specs.declared.status.Cause.TheVariants.{Finished, Done, Unfinished, Words, Refused, Memory, ReadFault, WriteFault, NotPositive, OnWall, Walked, LongEdge, NoEntry}
+use Rattle.ltypes.specs.declared.status.Cause.TheVariants.{Finished, Done, Unfinished, Words, Refused, Memory, ReadFault, WriteFault, NotPositive, OnWall, Walked, LongEdge, NoEntry, SectionHeavy, MergeRefused, MergeStuck}
 use Rattle.lt_locate.specs.declared.answers.WalkStop.{WalkStop}
 use Rattle.lt_locate.specs.declared.answers.WalkStop.TheVariants as walk
 use Rattle.lt_read.specs.declared.refusals.Refusal.{Refusal}
@@ -32,6 +35,9 @@ code_of (OnWall facet) = 8
 code_of (Walked after why) = 9
 code_of (LongEdge x length) = 10
 code_of (NoEntry entries) = 11
+code_of (SectionHeavy weight) = 12
+code_of (MergeRefused part refusal) = 13
+code_of (MergeStuck entry mark) = 14
 
 -- the numbers of wide and heavy marks, and of open ones
 abbrev pub unfinished_line : ℕ → ℕ → List ℕ
@@ -70,6 +76,21 @@ walked_line after why = named (codes "stopped after") after ++ stop_part why
 abbrev pub long_edge_line : List ℤ → ℤ → List ℕ
 long_edge_line x length = codes "long edge:" ++ behind_spaces x ++ line [] (length ∷ [])
 
+-- a part of an input, and why it is refused
+abbrev pub part_refused_line : ℕ → Refusal → List ℕ
+part_refused_line part refusal = named (codes "part") part ++ codes " " ++ refusal_text refusal
+
+-- what a mark is
+abbrev pub mark_part : Mark → List ℕ
+mark_part open_mark = line (codes ": open") []
+mark_part (cross target matrix) = line (codes ": cross") (pos target ∷ [])
+mark_part (wide class span) = line (codes ": wide") (pos span ∷ [])
+mark_part (heavy weight) = codes ": heavy " ++ line (decimal weight) []
+
+-- an entry that is stuck, and the mark behind which it lies
+abbrev pub stuck_line : ℕ → Mark → List ℕ
+stuck_line entry mark = named (codes "merge stuck") entry ++ mark_part mark
+
 -- the line of a cause; Finished and Done have none
 abbrev pub err_text : Cause → List ℕ
 err_text Finished = []
@@ -85,3 +106,6 @@ err_text (OnWall facet) = line (codes "on wall:") facet
 err_text (Walked after why) = walked_line after why
 err_text (LongEdge x length) = long_edge_line x length
 err_text (NoEntry entries) = line (codes "no entry") (pos entries ∷ [])
+err_text (SectionHeavy weight) = line (codes "section heavy") (weight ∷ [])
+err_text (MergeRefused part refusal) = part_refused_line part refusal
+err_text (MergeStuck entry mark) = stuck_line entry (mark_of mark)

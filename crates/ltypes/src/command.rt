@@ -12,9 +12,11 @@ ghost use Rattle.ltypes.specs.Laws.{OnePrincipalText, OneStartingSummary, OneSum
 
 use crate::drill::drill_command;
 use crate::forms::{cover_command, locate_command, shortest_command};
+use crate::merges::merge_command;
 use crate::printed::write_type;
 use crate::reading::{check_command, summary_command};
 use crate::run::{run_alone_command, run_command};
+use crate::sections::section_command;
 use crate::status::{Cause, Status};
 use crate::vectors::relevant_command;
 use lt_crew::Gate;
@@ -93,6 +95,8 @@ fn carry_out<R: Threads + Wait + Sync, S: Source, K: Sink, E: Sink, G: Gate>(
         Command::Cover { steps, q } => cover_command(alloc, &q, steps, out, err),
         Command::Relevant { d, entry } => relevant_command(alloc, d, entry, source, out, err),
         Command::Shortest { steps, q } => shortest_command(alloc, &q, steps, out, err),
+        Command::Section { steps, forms } => section_command(alloc, forms.as_slice(), steps, out, err),
+        Command::Merge { d } => merge_command(alloc, d, source, out, err),
     }
 }
 
@@ -109,7 +113,7 @@ fn refuse<E: Sink>(error: WordsError, err: &mut E) -> Status
 
 /// The program on the words behind its name: it reads them, does what they say, and answers how it ends.
 ///
-/// The output of the command goes to `out`, and the line of the cause to `err`. The source is read by `check`, by `relevant`, and where the words say
+/// The output of the command goes to `out`, and the line of the cause to `err`. The source is read by `check`, `relevant` and `merge`, and where the words say
 /// `--resume`. Only `run` with two or more workers starts threads, waits, and passes the gate.
 pub fn ltypes<R: Threads + Wait + Sync, S: Source, K: Sink, E: Sink, G: Gate>(
     rt: &R,

@@ -33,7 +33,7 @@ use lt_triang::Class;
 use std::alloc::Global;
 
 /// The triangulation of a form, to which at most so many crossings lead.
-fn located(alloc: Global, q: &Form, steps: u32) -> Result<Located, Cause>
+pub fn located(alloc: Global, q: &Form, steps: u32) -> Result<Located, Cause>
     requires { All (IsWithin most_of_form) q.now }
     ensures found { IfOk result (λ l. IsLocated (dimension_of l.triangulation) steps q.now l.crossed l.triangulation) }
     ensures why { IfErr result (IsUnlocated steps q.now) }

@@ -1,12 +1,17 @@
-ghost use Rattle.std.specs.Prelude.{◌≡◌};
+ghost use Rattle.std.specs.Prelude.{◌≡◌, ◌++◌, [], codes};
+ghost use Rattle.std.specs.Fmt.{decimal};
+ghost use Rattle.lt_core.specs.Marks.{mark_of};
+ghost use Rattle.lt_lines.specs.Lines.{line};
 ghost use Rattle.lt_io.specs.Causes.{HasCause};
 ghost use Rattle.lt_io.specs.Bytes.{Wrote};
-ghost use Rattle.ltypes.specs.Texts.{code_of, err_text, unfinished_line, stop_part, walked_line, long_edge_line};
+ghost use Rattle.ltypes.specs.Texts.{code_of, err_text, unfinished_line, stop_part, walked_line, long_edge_line, part_refused_line, mark_part, stuck_line};
 ghost use Rattle.ltypes.specs.Writings.{Reports};
 ghost use Rattle.ltypes.specs.Changes.{change};
 
 use crate::printed::{write_coordinates, write_named, write_named_number, write_named_point};
 use crate::refused::write_refusal;
+use itoa::Buffer;
+use lt_core::Mark;
 use lt_io::{Failed, Sink, write_all};
 use lt_lattice::{Normal, Point};
 use lt_lines::{write_count, write_line};
@@ -68,6 +73,25 @@ pub enum Cause {
         /// The number of its entries.
         entries: u32,
     },
+    /// The weight of the normals of a section, filled up with zeros, is at least 2^112.
+    SectionHeavy {
+        /// The weight, at most 2^120.
+        weight: i128,
+    },
+    /// The source doesn't spell two right atlases, one after the other.
+    MergeRefused {
+        /// The part that is refused: 1 or 2, or 0 where the source is too long.
+        part: u8,
+        /// Why.
+        refusal: Refusal,
+    },
+    /// An entry of the second atlas is like none that the first has come to.
+    MergeStuck {
+        /// The number of the entry.
+        entry: u32,
+        /// The mark of the facet behind which it lies, wide or heavy.
+        mark: Mark,
+    },
 }
 
 /// How the program ends.
@@ -118,6 +142,48 @@ fn write_long_edge<E: Sink>(err: &mut E, x: &Point, length: &i128) -> Result<(),
     write_named_number(err, b"", length)
 }
 
+/// Writes the line of a part of an input that is refused.
+fn write_part_refused<E: Sink>(err: &mut E, part: u8, refusal: &Refusal) -> Result<(), Failed>
+    ensures bytes { Wrote (E.held err.old) (E.held err.new) result (part_refused_line part refusal.now) }
+    ensures cause { HasCause (E.faults err.old) (E.faults err.new) result }
+{
+    write_named(err, b"part", part as u64)?;
+    write_all(err, b" ")?;
+    write_refusal(err, refusal)
+}
+
+/// Writes a weight, to the end of the line.
+fn write_weight<E: Sink>(err: &mut E, weight: u128) -> Result<(), Failed>
+    ensures bytes { Wrote (E.held err.old) (E.held err.new) result (codes ": heavy " ++ line (decimal weight) []) }
+    ensures cause { HasCause (E.faults err.old) (E.faults err.new) result }
+{
+    let mut buffer = Buffer::new();
+    write_all(err, b": heavy ")?;
+    write_line(err, buffer.format(weight).as_bytes(), &[])
+}
+
+/// Writes what a mark is, to the end of the line.
+fn write_mark<E: Sink>(err: &mut E, mark: &Mark) -> Result<(), Failed>
+    ensures bytes { Wrote (E.held err.old) (E.held err.new) result (mark_part (mark_of mark.now)) }
+    ensures cause { HasCause (E.faults err.old) (E.faults err.new) result }
+{
+    match mark {
+        Mark::Open => write_line(err, b": open", &[]),
+        Mark::Cross { target, .. } => write_count(err, b": cross", *target as u64),
+        Mark::Wide { span, .. } => write_count(err, b": wide", *span),
+        Mark::Heavy { weight } => write_weight(err, *weight),
+    }
+}
+
+/// Writes the line of an entry that is stuck.
+fn write_stuck<E: Sink>(err: &mut E, entry: u32, mark: &Mark) -> Result<(), Failed>
+    ensures bytes { Wrote (E.held err.old) (E.held err.new) result (stuck_line entry (mark_of mark.now)) }
+    ensures cause { HasCause (E.faults err.old) (E.faults err.new) result }
+{
+    write_named(err, b"merge stuck", entry as u64)?;
+    write_mark(err, mark)
+}
+
 impl Cause {
     /// The number of the cause.
     pub fn code(&self) -> u8
@@ -136,6 +202,9 @@ impl Cause {
             Cause::Walked { .. } => 9,
             Cause::LongEdge { .. } => 10,
             Cause::NoEntry { .. } => 11,
+            Cause::SectionHeavy { .. } => 12,
+            Cause::MergeRefused { .. } => 13,
+            Cause::MergeStuck { .. } => 14,
         }
     }
 
@@ -157,6 +226,9 @@ impl Cause {
             Cause::Walked { after, why } => write_walked(err, *after, why),
             Cause::LongEdge { x, length } => write_long_edge(err, x, length),
             Cause::NoEntry { entries } => write_count(err, b"no entry", *entries as u64),
+            Cause::SectionHeavy { weight } => write_line(err, b"section heavy", &[*weight]),
+            Cause::MergeRefused { part, refusal } => write_part_refused(err, *part, refusal),
+            Cause::MergeStuck { entry, mark } => write_stuck(err, *entry, mark),
         }
     }
 

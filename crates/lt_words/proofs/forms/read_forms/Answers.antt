@@ -6,7 +6,7 @@ use Rattle.std.specs.List.{flat_map}
 use Rattle.lt_model.specs.Forms.{numbers_of_form}
 use Rattle.lt_words.specs.declared.words.Kind.TheVariants as kind
 use Rattle.lt_words.specs.Grammar.{texts, FaultAt, most_in_section}
-use Rattle.lt_words.proofs.Chunks.{length-chunks, all_in_chunks}
+use Rattle.lt_words.proofs.Chunks.{length-chunks, all_in_chunks, given_forms}
 use Rattle.lt_words.proofs.FormWords.{front_with}
 use Rattle.lt_words.proofs.FormsWords.{no_crossings, no_count, no_number, word_behind_forms, all_forms}
 use Rattle.lt_words.proofs.Fronts.{longer}
@@ -87,9 +87,13 @@ returns-clause-words c =
     record {
       d = d;
       dimension = r;
-      some = omega (arith, ok.count, most.0);
-      few = omega (arith, ok.count, most.1, c.numbers_of-each.ensures.value);
       numbers = ok.numbers;
       words = all_forms ws d s c.in_ok-count.count zs whole (omega (arith, end, at, length-map c.args.words.now (λ x. x.now)))
           ∙ ap (λ k. codes "section" ∷ decimal d ∷ decimal s ∷ decimal k ∷ map signed_decimal zs) (sym ok.count);
     }
+
+pub returns-clause-given : goal.returns-clause-given
+returns-clause-given c =
+    let most = c.in_ok-count.ensures.found.0 in
+    let ok = c.in_ok-forms.ensures in
+    given_forms (numbers_of_form c.in_ok-d.d) c.in_ok-forms.forms.items (omega (arith, ok.count, most.0)) (omega (arith, ok.count, most.1, c.numbers_of-each.ensures.value)) ok.numbers ok.within

@@ -1,0 +1,48 @@
+use Rattle.std.proofs.Common.{pos, [], ◌∷◌, ◌++◌, length}
+use Rattle.std.specs.Prelude.{codes}
+use Rattle.std.specs.Fmt.{decimal}
+use Rattle.std.specs.List.{flat_map}
+use Rattle.std.proofs.lemmas.Result.{err_from_is_err_and}
+use Rattle.lt_io.proofs.Compose.{wrote_front, wrote_then, front_of_more, appended_then, appended_then_front}
+use Rattle.lt_lines.specs.Lines.{line}
+use Rattle.lt_text.specs.Texts.{start, combination_part}
+use Rattle.lt_core.specs.Marks.{mark_of}
+use Rattle.ltypes.specs.Texts.{named, refusal_text, mark_part}
+use Rattle.ltypes.specs.Forms.{crossings_line}
+use Rattle.ltypes.specs.Sections.{section_row_line, facets_line, facets, dead}
+use Rattle.ltypes.proofs.sections.write_dead.Goals as goal
+
+pub returns-in_err-write_start-clause-bytes : goal.returns-in_err-write_start-clause-bytes
+returns-in_err-write_start-clause-bytes g c =
+    let A0 = start (codes "dead") c.args.normal.now.items in
+    let A1 = start (codes " at") c.args.at.now.items in
+    let A2 = start (codes " form") c.args.form.now in
+    let A3 = line (codes " vector") c.args.x.now in
+    let p = err_from_is_err_and c.from_residual.result c.from_residual.ensures.1 in
+    wrote_front _ _ _ _ _ p.1 (front_of_more _ _ (A0 ++ A1 ++ A2) A3 (front_of_more _ _ (A0 ++ A1) A2 (front_of_more _ _ (A0) A1 c.in_err-write_start.ensures.bytes.front)))
+
+pub returns-in_err-write_start-2-clause-bytes : goal.returns-in_err-write_start-2-clause-bytes
+returns-in_err-write_start-2-clause-bytes g c =
+    let A0 = start (codes "dead") c.args.normal.now.items in
+    let A1 = start (codes " at") c.args.at.now.items in
+    let A2 = start (codes " form") c.args.form.now in
+    let A3 = line (codes " vector") c.args.x.now in
+    let p = err_from_is_err_and c.from_residual-in_err-write_start-2.result c.from_residual-in_err-write_start-2.ensures.1 in
+    wrote_front _ _ _ _ _ p.1 (front_of_more _ _ (A0 ++ A1 ++ A2) A3 (front_of_more _ _ (A0 ++ A1) A2 (appended_then_front _ _ _ (A0) A1 c.in_ok-write_start.ensures.bytes.whole c.in_err-write_start-2.ensures.bytes.front)))
+
+pub returns-in_err-write_start-3-clause-bytes : goal.returns-in_err-write_start-3-clause-bytes
+returns-in_err-write_start-3-clause-bytes g c =
+    let A0 = start (codes "dead") c.args.normal.now.items in
+    let A1 = start (codes " at") c.args.at.now.items in
+    let A2 = start (codes " form") c.args.form.now in
+    let A3 = line (codes " vector") c.args.x.now in
+    let p = err_from_is_err_and c.from_residual-in_err-write_start-3.result c.from_residual-in_err-write_start-3.ensures.1 in
+    wrote_front _ _ _ _ _ p.1 (front_of_more _ _ (A0 ++ A1 ++ A2) A3 (appended_then_front _ _ _ (A0 ++ A1) A2 (appended_then _ _ _ (A0) A1 c.in_ok-write_start.ensures.bytes.whole c.in_ok-write_start-2.ensures.bytes.whole) c.in_err-write_start-3.ensures.bytes.front))
+
+pub returns-clause-bytes : goal.returns-clause-bytes
+returns-clause-bytes g c =
+    let A0 = start (codes "dead") c.args.normal.now.items in
+    let A1 = start (codes " at") c.args.at.now.items in
+    let A2 = start (codes " form") c.args.form.now in
+    let A3 = line (codes " vector") c.args.x.now in
+    wrote_then _ _ _ _ (A0 ++ A1 ++ A2) A3 (appended_then _ _ _ (A0 ++ A1) A2 (appended_then _ _ _ (A0) A1 c.in_ok-write_start.ensures.bytes.whole c.in_ok-write_start-2.ensures.bytes.whole) c.in_ok-write_start-3.ensures.bytes.whole) c.write_named_point.ensures.bytes
