@@ -6,6 +6,7 @@ pub mod Located
 pub mod Openings
 pub mod Outputs
 pub mod Resuming
+pub mod Rowed
 pub mod SameFacets
 pub mod Started
 pub mod Summed

@@ -24,7 +24,7 @@ fn ends_at(bytes: &[u8], place: usize) -> bool
     requires { place ≤ prelude.length bytes.now }
     ensures { IsTrue result ↔ IsEndAt bytes.now place }
 {
-    if place < 4 || bytes[place - 4..place] != *b"end\n" {
+    if place < 4 || &bytes[place - 4..place] != b"end\n".as_slice() {
         return false;
     }
     place == 4 || bytes[place - 5] == b'\n'
@@ -99,7 +99,7 @@ fn merged(alloc: Global, d: u8, bytes: &[u8]) -> Result<Atlas, Cause>
             MergeError::Stuck {
                 entry,
                 mark,
-                atlas: _,
+                atlas: _so_far,
             },
         ) => Err(Cause::MergeStuck { entry, mark }),
         Err(MergeError::Memory) => Err(Cause::Memory),

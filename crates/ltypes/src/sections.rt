@@ -1,16 +1,18 @@
 //! The command on a linear section of a secondary cone.
 
-ghost use Rattle.std.specs.Prelude.{◌≡◌, ◌≤◌, ◌⊎◌, [], get_or, IfOk, IfErr};
+ghost use Rattle.std.specs.Prelude.{◌≡◌, ◌≤◌, ◌⊎◌, pos, [], ◌∷◌, codes, get_or, IfOk, IfErr};
 ghost use Rattle.std.specs.List.{flat_map};
 ghost use Rattle.lt_io.specs.Causes.{HasCause};
 ghost use Rattle.lt_io.specs.Bytes.{Wrote};
+ghost use Rattle.lt_lines.specs.Lines.{line};
+ghost use Rattle.lt_text.specs.Texts.{start};
 ghost use Rattle.lt_triang.specs.Kept.{dimension_of};
 ghost use Rattle.lt_words.specs.Grammar.{AreGiven, most_crossings};
 ghost use Rattle.ltypes.specs.Changes.{change};
 ghost use Rattle.ltypes.specs.declared.status.Cause.TheVariants.{Memory};
-ghost use Rattle.ltypes.specs.Forms.{IsLocated};
-ghost use Rattle.ltypes.specs.Sections.{IsCut, IsTooHeavy, AnswersSection, live_line, dead_line, redundant_line, section_row_line, facets_line, section_text, facets, dead};
-ghost use Rattle.ltypes.specs.Texts.{code_of, err_text};
+ghost use Rattle.ltypes.specs.Forms.{IsLocated, AnswersForm};
+ghost use Rattle.ltypes.specs.Sections.{IsCut, IsTooHeavy, IsSectionText, AnswersSection, live_line, dead_line, redundant_line, section_row_line, facets_line, section_text, facets, dead};
+ghost use Rattle.ltypes.specs.Texts.{code_of, err_text, named};
 ghost use Rattle.ltypes.specs.Writings.{Reports};
 
 use crate::forms::located;
@@ -28,14 +30,38 @@ use std::alloc::Global;
 /// Numbers, one for each form.
 type Numbers = ArrayVec<i128, 21>;
 
+/// Writes a word and numbers, with no end of line.
+fn start_with<K: Sink>(out: &mut K, word: &[u8], numbers: &Numbers) -> Result<(), Failed>
+    ensures bytes { Wrote (K.held out.old) (K.held out.new) result (start word.now numbers.now.items) }
+    ensures cause { HasCause (K.faults out.old) (K.faults out.new) result }
+{
+    write_start(out, word, numbers.as_slice())
+}
+
+/// Writes the numbers of a form, with no end of line.
+fn start_form<K: Sink>(out: &mut K, form: &Form) -> Result<(), Failed>
+    ensures bytes { Wrote (K.held out.old) (K.held out.new) result (start (codes " form") form.now) }
+    ensures cause { HasCause (K.faults out.old) (K.faults out.new) result }
+{
+    write_start(out, b" form", form.numbers())
+}
+
+/// Writes the numbers of a form, to the end of the line.
+fn write_form<K: Sink>(out: &mut K, form: &Form) -> Result<(), Failed>
+    ensures bytes { Wrote (K.held out.old) (K.held out.new) result (line (codes " form") form.now) }
+    ensures cause { HasCause (K.faults out.old) (K.faults out.new) result }
+{
+    write_line(out, b" form", form.numbers())
+}
+
 /// Writes the row of a live facet.
 fn write_live<K: Sink>(out: &mut K, normal: &Numbers, at: &Numbers, form: &Form) -> Result<(), Failed>
     ensures bytes { Wrote (K.held out.old) (K.held out.new) result (live_line normal.now.items at.now.items form.now) }
     ensures cause { HasCause (K.faults out.old) (K.faults out.new) result }
 {
-    write_start(out, b"live", normal.as_slice())?;
-    write_start(out, b" at", at.as_slice())?;
-    write_line(out, b" form", form.numbers())
+    start_with(out, b"live", normal)?;
+    start_with(out, b" at", at)?;
+    write_form(out, form)
 }
 
 /// Writes the row of a dead facet.
@@ -43,9 +69,9 @@ fn write_dead<K: Sink>(out: &mut K, normal: &Numbers, at: &Numbers, form: &Form,
     ensures bytes { Wrote (K.held out.old) (K.held out.new) result (dead_line normal.now.items at.now.items form.now x.now) }
     ensures cause { HasCause (K.faults out.old) (K.faults out.new) result }
 {
-    write_start(out, b"dead", normal.as_slice())?;
-    write_start(out, b" at", at.as_slice())?;
-    write_start(out, b" form", form.numbers())?;
+    start_with(out, b"dead", normal)?;
+    start_with(out, b" at", at)?;
+    start_form(out, form)?;
     write_named_point(out, b" vector", x)
 }
 
@@ -54,7 +80,7 @@ fn write_redundant<K: Sink>(out: &mut K, normal: &Numbers, scale: &i128, terms: 
     ensures bytes { Wrote (K.held out.old) (K.held out.new) result (redundant_line normal.now.items scale.now terms.now.items) }
     ensures cause { HasCause (K.faults out.old) (K.faults out.new) result }
 {
-    write_start(out, b"redundant", normal.as_slice())?;
+    start_with(out, b"redundant", normal)?;
     write_terms(out, scale, terms)
 }
 
@@ -81,24 +107,52 @@ fn write_rows<K: Sink>(out: &mut K, rows: &[SectionRow]) -> Result<(), Failed>
     Ok(())
 }
 
-/// The number of facets, and of the dead ones among them.
-fn facets_of(rows: &[SectionRow]) -> (u64, u64)
-    ensures facets { result.0 ≡ facets rows.now }
-    ensures dead { result.1 ≡ dead rows.now }
+/// The number of facets, live or dead.
+#[tactic(auto, using(crate::proofs::Rowed::facets_more))]
+fn facets_of(rows: &[SectionRow]) -> u64
+    ensures { result ≡ facets rows.now }
 {
     let mut facets = 0;
+    for row in rows {
+        facets += match &row.verdict {
+            SectionVerdict::Live { .. } => 1,
+            SectionVerdict::Dead { .. } => 1,
+            SectionVerdict::Combination { .. } => 0,
+        };
+    }
+    facets
+}
+
+/// The number of dead facets.
+#[tactic(auto, using(crate::proofs::Rowed::dead_more))]
+fn dead_of(rows: &[SectionRow]) -> u64
+    ensures { result ≡ dead rows.now }
+{
     let mut dead = 0;
     for row in rows {
-        match &row.verdict {
-            SectionVerdict::Live { .. } => facets += 1,
-            SectionVerdict::Dead { .. } => {
-                facets += 1;
-                dead += 1;
-            }
-            SectionVerdict::Combination { .. } => {}
-        }
+        dead += match &row.verdict {
+            SectionVerdict::Live { .. } => 0,
+            SectionVerdict::Dead { .. } => 1,
+            SectionVerdict::Combination { .. } => 0,
+        };
     }
-    (facets, dead)
+    dead
+}
+
+/// Writes the number of facets, with no end of line.
+fn start_facets<K: Sink>(out: &mut K, rows: &[SectionRow]) -> Result<(), Failed>
+    ensures bytes { Wrote (K.held out.old) (K.held out.new) result (named (codes "facets") (facets rows.now)) }
+    ensures cause { HasCause (K.faults out.old) (K.faults out.new) result }
+{
+    write_named(out, b"facets", facets_of(rows))
+}
+
+/// Writes the number of dead facets, to the end of the line.
+fn write_dead_facets<K: Sink>(out: &mut K, rows: &[SectionRow]) -> Result<(), Failed>
+    ensures bytes { Wrote (K.held out.old) (K.held out.new) result (line (codes " dead") (pos (dead rows.now) ∷ [])) }
+    ensures cause { HasCause (K.faults out.old) (K.faults out.new) result }
+{
+    write_count(out, b" dead", dead_of(rows))
 }
 
 /// Writes the numbers of facets and of dead ones.
@@ -106,9 +160,8 @@ fn write_facets<K: Sink>(out: &mut K, rows: &[SectionRow]) -> Result<(), Failed>
     ensures bytes { Wrote (K.held out.old) (K.held out.new) result (facets_line rows.now) }
     ensures cause { HasCause (K.faults out.old) (K.faults out.new) result }
 {
-    let (facets, dead) = facets_of(rows);
-    write_named(out, b"facets", facets)?;
-    write_count(out, b" dead", dead)
+    start_facets(out, rows)?;
+    write_dead_facets(out, rows)
 }
 
 /// Writes the number of crossings, the rows, and the numbers of facets.
@@ -137,11 +190,13 @@ fn cut(alloc: Global, located: &Located, steps: u32, forms: &[Form]) -> Result<S
 }
 
 /// Walks to the triangulation of the first form, and writes its cone cut by the forms.
-fn write_section<K: Sink>(alloc: Global, forms: &[Form], steps: u32, out: &mut K) -> Cause
-    requires { AreGiven forms.now }
-    ensures { AnswersSection steps forms.now (change (K.held out.old) (K.held out.new) (K.faults out.old) (K.faults out.new)) result }
+fn write_section<K: Sink>(alloc: Global, first: &Form, forms: &[Form], steps: u32, out: &mut K) -> Cause
+    requires given { AreGiven forms.now }
+    requires first { first.now ≡ get_or forms.now 0 [] }
+    ensures { AnswersForm (IsSectionText forms.now) (IsTooHeavy forms.now) steps first.now
+        (change (K.held out.old) (K.held out.new) (K.faults out.old) (K.faults out.new)) result }
 {
-    let located = match located(alloc, &forms[0], steps) {
+    let located = match located(alloc, first, steps) {
         Ok(located) => located,
         Err(cause) => return cause,
     };
@@ -175,5 +230,5 @@ pub fn section_command<K: Sink, E: Sink>(
     ensures answer { AnswersSection steps forms.now (change (K.held out.old) (K.held out.new) (K.faults out.old) (K.faults out.new)) result.cause }
     ensures line { Reports (change (E.held err.old) (E.held err.new) (E.faults err.old) (E.faults err.new)) (err_text result.cause) }
 {
-    write_section(alloc, forms, steps, out).report(err)
+    write_section(alloc, &forms[0], forms, steps, out).report(err)
 }

@@ -226,7 +226,7 @@ impl Cause {
             Cause::Walked { after, why } => write_walked(err, *after, why),
             Cause::LongEdge { x, length } => write_long_edge(err, x, length),
             Cause::NoEntry { entries } => write_count(err, b"no entry", *entries as u64),
-            Cause::SectionHeavy { weight } => write_line(err, b"section heavy", &[*weight]),
+            Cause::SectionHeavy { weight } => write_named_number(err, b"section heavy", weight),
             Cause::MergeRefused { part, refusal } => write_part_refused(err, *part, refusal),
             Cause::MergeStuck { entry, mark } => write_stuck(err, *entry, mark),
         }

@@ -12,25 +12,25 @@ use Rattle.ltypes.specs.Forms.{crossings_line}
 use Rattle.ltypes.specs.Sections.{section_row_line, facets_line, facets, dead}
 use Rattle.ltypes.proofs.sections.write_live.Goals as goal
 
-pub returns-in_err-write_start-clause-bytes : goal.returns-in_err-write_start-clause-bytes
-returns-in_err-write_start-clause-bytes g c =
+pub returns-in_err-start_with-clause-bytes : goal.returns-in_err-start_with-clause-bytes
+returns-in_err-start_with-clause-bytes g c =
     let A0 = start (codes "live") c.args.normal.now.items in
     let A1 = start (codes " at") c.args.at.now.items in
     let A2 = line (codes " form") c.args.form.now in
     let p = err_from_is_err_and c.from_residual.result c.from_residual.ensures.1 in
-    wrote_front _ _ _ _ _ p.1 (front_of_more _ _ (A0 ++ A1) A2 (front_of_more _ _ (A0) A1 c.in_err-write_start.ensures.bytes.front))
+    wrote_front _ _ _ _ _ p.1 (front_of_more _ _ (A0 ++ A1) A2 (front_of_more _ _ (A0) A1 c.in_err-start_with.ensures.bytes.front))
 
-pub returns-in_err-write_start-2-clause-bytes : goal.returns-in_err-write_start-2-clause-bytes
-returns-in_err-write_start-2-clause-bytes g c =
+pub returns-in_err-start_with-2-clause-bytes : goal.returns-in_err-start_with-2-clause-bytes
+returns-in_err-start_with-2-clause-bytes g c =
     let A0 = start (codes "live") c.args.normal.now.items in
     let A1 = start (codes " at") c.args.at.now.items in
     let A2 = line (codes " form") c.args.form.now in
-    let p = err_from_is_err_and c.from_residual-in_err-write_start-2.result c.from_residual-in_err-write_start-2.ensures.1 in
-    wrote_front _ _ _ _ _ p.1 (front_of_more _ _ (A0 ++ A1) A2 (appended_then_front _ _ _ (A0) A1 c.in_ok-write_start.ensures.bytes.whole c.in_err-write_start-2.ensures.bytes.front))
+    let p = err_from_is_err_and c.from_residual-in_err-start_with-2.result c.from_residual-in_err-start_with-2.ensures.1 in
+    wrote_front _ _ _ _ _ p.1 (front_of_more _ _ (A0 ++ A1) A2 (appended_then_front _ _ _ (A0) A1 c.in_ok-start_with.ensures.bytes.whole c.in_err-start_with-2.ensures.bytes.front))
 
 pub returns-clause-bytes : goal.returns-clause-bytes
 returns-clause-bytes g c =
     let A0 = start (codes "live") c.args.normal.now.items in
     let A1 = start (codes " at") c.args.at.now.items in
     let A2 = line (codes " form") c.args.form.now in
-    wrote_then _ _ _ _ (A0 ++ A1) A2 (appended_then _ _ _ (A0) A1 c.in_ok-write_start.ensures.bytes.whole c.in_ok-write_start-2.ensures.bytes.whole) c.write_line.ensures.bytes
+    wrote_then _ _ _ _ (A0 ++ A1) A2 (appended_then _ _ _ (A0) A1 c.in_ok-start_with.ensures.bytes.whole c.in_ok-start_with-2.ensures.bytes.whole) c.write_form.ensures.bytes

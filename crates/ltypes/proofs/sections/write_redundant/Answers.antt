@@ -12,15 +12,15 @@ use Rattle.ltypes.specs.Forms.{crossings_line}
 use Rattle.ltypes.specs.Sections.{section_row_line, facets_line, facets, dead}
 use Rattle.ltypes.proofs.sections.write_redundant.Goals as goal
 
-pub returns-in_err-write_start-clause-bytes : goal.returns-in_err-write_start-clause-bytes
-returns-in_err-write_start-clause-bytes g c =
+pub returns-in_err-start_with-clause-bytes : goal.returns-in_err-start_with-clause-bytes
+returns-in_err-start_with-clause-bytes g c =
     let A0 = start (codes "redundant") c.args.normal.now.items in
     let A1 = combination_part c.args.scale.now c.args.terms.now.items in
     let p = err_from_is_err_and c.from_residual.result c.from_residual.ensures.1 in
-    wrote_front _ _ _ _ _ p.1 (front_of_more _ _ (A0) A1 c.in_err-write_start.ensures.bytes.front)
+    wrote_front _ _ _ _ _ p.1 (front_of_more _ _ (A0) A1 c.in_err-start_with.ensures.bytes.front)
 
 pub returns-clause-bytes : goal.returns-clause-bytes
 returns-clause-bytes g c =
     let A0 = start (codes "redundant") c.args.normal.now.items in
     let A1 = combination_part c.args.scale.now c.args.terms.now.items in
-    wrote_then _ _ _ _ (A0) A1 c.in_ok-write_start.ensures.bytes.whole c.write_terms.ensures.bytes
+    wrote_then _ _ _ _ (A0) A1 c.in_ok-start_with.ensures.bytes.whole c.write_terms.ensures.bytes

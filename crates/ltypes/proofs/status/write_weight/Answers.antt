@@ -1,26 +1,18 @@
-use Rattle.std.proofs.Common.{pos, [], ◌∷◌, ◌++◌, length}
+use Rattle.std.proofs.Common.{ℕ, List, [], ap, ◌∙◌}
 use Rattle.std.specs.Prelude.{codes}
-use Rattle.std.specs.Fmt.{decimal}
-use Rattle.std.specs.List.{flat_map}
 use Rattle.std.proofs.lemmas.Result.{err_from_is_err_and}
-use Rattle.lt_io.proofs.Compose.{wrote_front, wrote_then, front_of_more, appended_then, appended_then_front}
+use Rattle.std.specs.Fmt.{decimal}
+use Rattle.lt_io.proofs.Compose.{wrote_front, wrote_then, front_of_more}
 use Rattle.lt_lines.specs.Lines.{line}
-use Rattle.lt_text.specs.Texts.{start, combination_part}
-use Rattle.lt_core.specs.Marks.{mark_of}
-use Rattle.ltypes.specs.Texts.{named, refusal_text, mark_part}
-use Rattle.ltypes.specs.Forms.{crossings_line}
-use Rattle.ltypes.specs.Sections.{section_row_line, facets_line, facets, dead}
+use Rattle.ltypes.proofs.Drilled.{told}
 use Rattle.ltypes.proofs.status.write_weight.Goals as goal
 
 pub returns-in_err-write_all-clause-bytes : goal.returns-in_err-write_all-clause-bytes
 returns-in_err-write_all-clause-bytes g c =
-    let A0 = codes ": heavy " in
-    let A1 = line (decimal c.args.weight) [] in
     let p = err_from_is_err_and c.from_residual.result c.from_residual.ensures.1 in
-    wrote_front _ _ _ _ _ p.1 (front_of_more _ _ (A0) A1 c.in_err-write_all.ensures.bytes.front)
+    wrote_front _ _ _ _ _ p.1 (front_of_more _ _ (codes ": heavy ") (line (decimal c.args.weight) []) c.in_err-write_all.ensures.bytes.front)
 
 pub returns-clause-bytes : goal.returns-clause-bytes
 returns-clause-bytes g c =
-    let A0 = codes ": heavy " in
-    let A1 = line (decimal c.args.weight) [] in
-    wrote_then _ _ _ _ (A0) A1 c.in_ok-write_all.ensures.bytes.whole c.write_line.ensures.bytes
+    let same = ap (λ (l : List ℕ). line l []) (c.as_bytes.ensures.value ∙ c.format.ensures.text) in
+    wrote_then _ _ _ _ (codes ": heavy ") (line (decimal c.args.weight) []) c.in_ok-write_all.ensures.bytes.whole (told _ _ _ _ _ same c.write_line.ensures.bytes)
