@@ -3,6 +3,7 @@ pub mod Counts
 pub mod Drilled
 pub mod Ending
 pub mod Located
+pub mod Merging
 pub mod Openings
 pub mod Outputs
 pub mod Resuming

@@ -11,7 +11,7 @@ ghost use Rattle.lt_words.specs.Grammar.{AreGiven, most_crossings};
 ghost use Rattle.ltypes.specs.Changes.{change};
 ghost use Rattle.ltypes.specs.declared.status.Cause.TheVariants.{Memory};
 ghost use Rattle.ltypes.specs.Forms.{IsLocated, AnswersForm};
-ghost use Rattle.ltypes.specs.Sections.{IsCut, IsTooHeavy, IsSectionText, AnswersSection, live_line, dead_line, redundant_line, section_row_line, facets_line, section_text, facets, dead};
+ghost use Rattle.ltypes.specs.Sections.{IsCut, IsTooHeavy, IsSectionText, AnswersSection, live_line, dead_line, redundant_line, section_row_line, facets_line, section_text, one_if_facet, one_if_dead, facets, dead};
 ghost use Rattle.ltypes.specs.Texts.{code_of, err_text, named};
 ghost use Rattle.ltypes.specs.Writings.{Reports};
 
@@ -107,34 +107,46 @@ fn write_rows<K: Sink>(out: &mut K, rows: &[SectionRow]) -> Result<(), Failed>
     Ok(())
 }
 
+/// One for a facet, live or dead.
+fn facet(row: &SectionRow) -> u64
+    ensures one { result ≡ one_if_facet row.now.verdict }
+    ensures few { result ≤ 1 }
+{
+    match &row.verdict {
+        SectionVerdict::Live { .. } | SectionVerdict::Dead { .. } => 1,
+        SectionVerdict::Combination { .. } => 0,
+    }
+}
+
+/// One for a dead facet.
+fn dead_facet(row: &SectionRow) -> u64
+    ensures one { result ≡ one_if_dead row.now.verdict }
+    ensures few { result ≤ 1 }
+{
+    match &row.verdict {
+        SectionVerdict::Dead { .. } => 1,
+        SectionVerdict::Live { .. } | SectionVerdict::Combination { .. } => 0,
+    }
+}
+
 /// The number of facets, live or dead.
-#[tactic(auto, using(crate::proofs::Rowed::facets_more))]
 fn facets_of(rows: &[SectionRow]) -> u64
     ensures { result ≡ facets rows.now }
 {
     let mut facets = 0;
     for row in rows {
-        facets += match &row.verdict {
-            SectionVerdict::Live { .. } => 1,
-            SectionVerdict::Dead { .. } => 1,
-            SectionVerdict::Combination { .. } => 0,
-        };
+        facets += facet(row);
     }
     facets
 }
 
 /// The number of dead facets.
-#[tactic(auto, using(crate::proofs::Rowed::dead_more))]
 fn dead_of(rows: &[SectionRow]) -> u64
     ensures { result ≡ dead rows.now }
 {
     let mut dead = 0;
     for row in rows {
-        dead += match &row.verdict {
-            SectionVerdict::Live { .. } => 0,
-            SectionVerdict::Dead { .. } => 1,
-            SectionVerdict::Combination { .. } => 0,
-        };
+        dead += dead_facet(row);
     }
     dead
 }
@@ -190,7 +202,7 @@ fn cut(alloc: Global, located: &Located, steps: u32, forms: &[Form]) -> Result<S
 }
 
 /// Walks to the triangulation of the first form, and writes its cone cut by the forms.
-fn write_section<K: Sink>(alloc: Global, first: &Form, forms: &[Form], steps: u32, out: &mut K) -> Cause
+fn write_cut<K: Sink>(alloc: Global, first: &Form, forms: &[Form], steps: u32, out: &mut K) -> Cause
     requires given { AreGiven forms.now }
     requires first { first.now ≡ get_or forms.now 0 [] }
     ensures { AnswersForm (IsSectionText forms.now) (IsTooHeavy forms.now) steps first.now
@@ -207,6 +219,14 @@ fn write_section<K: Sink>(alloc: Global, first: &Form, forms: &[Form], steps: u3
             Err(Failed) => Cause::WriteFault,
         },
     }
+}
+
+/// Walks to the triangulation of the first of the forms, and writes its cone cut by them.
+fn write_section<K: Sink>(alloc: Global, forms: &[Form], steps: u32, out: &mut K) -> Cause
+    requires { AreGiven forms.now }
+    ensures { AnswersSection steps forms.now (change (K.held out.old) (K.held out.new) (K.faults out.old) (K.faults out.new)) result }
+{
+    write_cut(alloc, &forms[0], forms, steps, out)
 }
 
 /// The command `section D B M` and M forms in D variables, 2 to 6, from 1 to d(d+1)/2 of them, with numbers of at most 4096 in absolute
@@ -230,5 +250,5 @@ pub fn section_command<K: Sink, E: Sink>(
     ensures answer { AnswersSection steps forms.now (change (K.held out.old) (K.held out.new) (K.faults out.old) (K.faults out.new)) result.cause }
     ensures line { Reports (change (E.held err.old) (E.held err.new) (E.faults err.old) (E.faults err.new)) (err_text result.cause) }
 {
-    write_section(alloc, &forms[0], forms, steps, out).report(err)
+    write_section(alloc, forms, steps, out).report(err)
 }
