@@ -1,4 +1,5 @@
 pub mod Closed
+pub mod Complete
 pub mod Counts
 pub mod Drilled
 pub mod Ending

@@ -11,4 +11,5 @@ pub mod Vectors
 pub mod Sections
 pub mod Merges
 pub mod Answers
+pub mod Complete
 pub mod Laws
