@@ -3,6 +3,7 @@
 ghost use Rattle.std.specs.Prelude.{◌≡◌, false};
 ghost use Rattle.lt_words.specs.Grammar.{texts, IsDimension, InRange, place_of};
 ghost use Rattle.ltypes.specs.Changes.{change};
+ghost use Rattle.ltypes.specs.Complete.{NotRisen, IsDoneOrMemory, EndsWords};
 ghost use Rattle.ltypes.specs.Texts.{code_of, err_text};
 ghost use Rattle.ltypes.specs.declared.status.Cause.TheVariants.{Words};
 ghost use Rattle.ltypes.specs.Outputs.{IsPrincipalText};
@@ -50,6 +51,7 @@ pub fn principal_command<K: Sink, E: Sink>(alloc: Global, d: u8, out: &mut K, er
     requires { IsDimension d }
     ensures code { result.code ≡ code_of result.cause }
     ensures answer { Answers (IsPrincipalText d) (change (K.held out.old) (K.held out.new) (K.faults out.old) (K.faults out.new)) result.cause }
+    ensures complete { NotRisen (K.faults out.old) (K.faults out.new) → IsDoneOrMemory result.cause }
     ensures line { Reports (change (E.held err.old) (E.held err.new) (E.faults err.old) (E.faults err.new)) (err_text result.cause) }
 {
     write_principal(alloc, d, out).report(err)
@@ -115,6 +117,9 @@ fn refuse<E: Sink>(error: WordsError, err: &mut E) -> Status
 ///
 /// The output of the command goes to `out`, and the line of the cause to `err`. The source is read by `check`, `relevant` and `merge`, and where the words say
 /// `--resume`. Only `run` with two or more workers starts threads, waits, and passes the gate.
+///
+/// Where the words are a command's and neither the source's count of faults nor that of `out` rose, the answer is complete: `run` decided each
+/// position below the step limit, and finished where it met no limit; another command is done; or the answer is a refusal with its cause, or Memory.
 pub fn ltypes<R: Threads + Wait + Sync, S: Source, K: Sink, E: Sink, G: Gate>(
     rt: &R,
     alloc: Global,
@@ -126,6 +131,10 @@ pub fn ltypes<R: Threads + Wait + Sync, S: Source, K: Sink, E: Sink, G: Gate>(
 ) -> Status
     ensures code { result.code ≡ code_of result.cause }
     ensures answer { AnswersWords (texts words.now)
+        (change (S.left source.old) (S.left source.new) (S.faults source.old) (S.faults source.new))
+        (change (K.held out.old) (K.held out.new) (K.faults out.old) (K.faults out.new)) result.cause }
+    ensures complete { NotRisen (S.faults source.old) (S.faults source.new) →
+        NotRisen (K.faults out.old) (K.faults out.new) → EndsWords (texts words.now)
         (change (S.left source.old) (S.left source.new) (S.faults source.old) (S.faults source.new))
         (change (K.held out.old) (K.held out.new) (K.faults out.old) (K.faults out.new)) result.cause }
     ensures line { Reports (change (E.held err.old) (E.held err.new) (E.faults err.old) (E.faults err.new)) (err_text result.cause) }

@@ -11,6 +11,7 @@ ghost use Rattle.lt_triang.specs.Kept.{IsOfSomeForm};
 ghost use Rattle.lt_words.specs.Grammar.{IsDimension, most_turns};
 ghost use Rattle.ltypes.specs.Writings.{Reports};
 ghost use Rattle.ltypes.specs.Changes.{change};
+ghost use Rattle.ltypes.specs.Complete.{NotRisen, EndsDrill};
 ghost use Rattle.ltypes.specs.Drills.{AreDrilled, IsUnread, IsUndrilled, start_text, end_text, drill_text, AnswersDrill};
 ghost use Rattle.ltypes.specs.Texts.{code_of, err_text};
 
@@ -209,6 +210,7 @@ pub fn drill_command<K: Sink, E: Sink>(
     requires turns { length ≤ most_turns d }
     ensures code { result.code ≡ code_of result.cause }
     ensures answer { AnswersDrill d seed length (change (K.held out.old) (K.held out.new) (K.faults out.old) (K.faults out.new)) result.cause }
+    ensures complete { NotRisen (K.faults out.old) (K.faults out.new) → EndsDrill d seed length result.cause }
     ensures line { Reports (change (E.held err.old) (E.held err.new) (E.faults err.old) (E.faults err.new)) (err_text result.cause) }
 {
     write_drill(alloc, d, seed, length, out).report(err)

@@ -14,8 +14,9 @@ ghost use Rattle.lt_num.specs.Fractions.{IsReduced};
 ghost use Rattle.lt_triang.specs.Kept.{dimension_of};
 ghost use Rattle.lt_words.specs.Grammar.{IsWalkGiven, most_of_form};
 ghost use Rattle.ltypes.specs.Changes.{change};
+ghost use Rattle.ltypes.specs.Complete.{NotRisen, EndsForm};
 ghost use Rattle.ltypes.specs.declared.status.Cause.TheVariants.{Memory};
-ghost use Rattle.ltypes.specs.Forms.{IsLocated, IsUnlocated, IsTooLong, AnswersLocate, AnswersCover, AnswersShortest, locate_text, cover_text, shortest_text, vectors_text, radius_line};
+ghost use Rattle.ltypes.specs.Forms.{IsLocated, IsUnlocated, IsTooLong, refuses_none, AnswersLocate, AnswersCover, AnswersShortest, locate_text, cover_text, shortest_text, vectors_text, radius_line};
 ghost use Rattle.ltypes.specs.Texts.{code_of, err_text};
 ghost use Rattle.ltypes.specs.Writings.{Reports};
 
@@ -89,6 +90,7 @@ pub fn locate_command<K: Sink, E: Sink>(
     requires { IsWalkGiven steps q.now }
     ensures code { result.code ≡ code_of result.cause }
     ensures answer { AnswersLocate steps q.now (change (K.held out.old) (K.held out.new) (K.faults out.old) (K.faults out.new)) result.cause }
+    ensures complete { NotRisen (K.faults out.old) (K.faults out.new) → EndsForm refuses_none steps q.now result.cause }
     ensures line { Reports (change (E.held err.old) (E.held err.new) (E.faults err.old) (E.faults err.new)) (err_text result.cause) }
 {
     write_locate(alloc, q, steps, out).report(err)
@@ -189,6 +191,7 @@ pub fn cover_command<K: Sink, E: Sink>(
     requires { IsWalkGiven steps q.now }
     ensures code { result.code ≡ code_of result.cause }
     ensures answer { AnswersCover steps q.now (change (K.held out.old) (K.held out.new) (K.faults out.old) (K.faults out.new)) result.cause }
+    ensures complete { NotRisen (K.faults out.old) (K.faults out.new) → EndsForm (IsTooLong q.now) steps q.now result.cause }
     ensures line { Reports (change (E.held err.old) (E.held err.new) (E.faults err.old) (E.faults err.new)) (err_text result.cause) }
 {
     write_cover(alloc, q, steps, out).report(err)
@@ -255,6 +258,7 @@ pub fn shortest_command<K: Sink, E: Sink>(
     requires { IsWalkGiven steps q.now }
     ensures code { result.code ≡ code_of result.cause }
     ensures answer { AnswersShortest steps q.now (change (K.held out.old) (K.held out.new) (K.faults out.old) (K.faults out.new)) result.cause }
+    ensures complete { NotRisen (K.faults out.old) (K.faults out.new) → EndsForm refuses_none steps q.now result.cause }
     ensures line { Reports (change (E.held err.old) (E.held err.new) (E.faults err.old) (E.faults err.new)) (err_text result.cause) }
 {
     write_shortest(alloc, q, steps, out).report(err)

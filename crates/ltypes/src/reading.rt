@@ -5,6 +5,7 @@ ghost use Rattle.lt_words.specs.Grammar.{IsDimension};
 ghost use Rattle.ltypes.specs.Answers.{AnswersOn};
 ghost use Rattle.ltypes.specs.Writings.{Reports};
 ghost use Rattle.ltypes.specs.Changes.{change};
+ghost use Rattle.ltypes.specs.Complete.{NotRisen, EndsOn};
 ghost use Rattle.ltypes.specs.Summaries.{check_text, summary_text};
 ghost use Rattle.ltypes.specs.Texts.{code_of, err_text};
 
@@ -49,6 +50,9 @@ pub fn check_command<S: Source, K: Sink, E: Sink>(
     ensures answer { AnswersOn d true check_text
         (change (S.left source.old) (S.left source.new) (S.faults source.old) (S.faults source.new))
         (change (K.held out.old) (K.held out.new) (K.faults out.old) (K.faults out.new)) result.cause }
+    ensures complete { NotRisen (S.faults source.old) (S.faults source.new) →
+        NotRisen (K.faults out.old) (K.faults out.new) → EndsOn d true
+        (change (S.left source.old) (S.left source.new) (S.faults source.old) (S.faults source.new)) result.cause }
     ensures line { Reports (change (E.held err.old) (E.held err.new) (E.faults err.old) (E.faults err.new)) (err_text result.cause) }
 {
     write_check(alloc, d, source, out).report(err)
@@ -100,6 +104,9 @@ pub fn summary_command<S: Source, K: Sink, E: Sink>(
     ensures answer { AnswersOn d resume summary_text
         (change (S.left source.old) (S.left source.new) (S.faults source.old) (S.faults source.new))
         (change (K.held out.old) (K.held out.new) (K.faults out.old) (K.faults out.new)) result.cause }
+    ensures complete { NotRisen (S.faults source.old) (S.faults source.new) →
+        NotRisen (K.faults out.old) (K.faults out.new) → EndsOn d resume
+        (change (S.left source.old) (S.left source.new) (S.faults source.old) (S.faults source.new)) result.cause }
     ensures unread { resume ≡ false → S.left source.new ≡ S.left source.old }
     ensures no_fault { resume ≡ false → S.faults source.new ≡ S.faults source.old }
     ensures line { Reports (change (E.held err.old) (E.held err.new) (E.faults err.old) (E.faults err.new)) (err_text result.cause) }

@@ -5,6 +5,7 @@ ghost use Rattle.lt_model.specs.Atlases.{undecided, stuck};
 ghost use Rattle.lt_model.specs.Limits.{step_limit};
 ghost use Rattle.lt_words.specs.Grammar.{IsDimension, most_workers};
 ghost use Rattle.ltypes.specs.Changes.{change};
+ghost use Rattle.ltypes.specs.Complete.{NotRisen, EndsRun};
 ghost use Rattle.ltypes.specs.Texts.{code_of, err_text};
 ghost use Rattle.ltypes.specs.Writings.{Reports};
 ghost use Rattle.ltypes.specs.Runs.{AnswersRun, IsEnd};
@@ -98,6 +99,10 @@ pub fn run_alone_command<S: Source, K: Sink, E: Sink>(
     ensures answer { AnswersRun d 1 steps resume
         (change (S.left source.old) (S.left source.new) (S.faults source.old) (S.faults source.new))
         (change (K.held out.old) (K.held out.new) (K.faults out.old) (K.faults out.new)) result.cause }
+    ensures complete { NotRisen (S.faults source.old) (S.faults source.new) →
+        NotRisen (K.faults out.old) (K.faults out.new) → EndsRun d 1 steps resume
+        (change (S.left source.old) (S.left source.new) (S.faults source.old) (S.faults source.new))
+        (change (K.held out.old) (K.held out.new) (K.faults out.old) (K.faults out.new)) result.cause }
     ensures unread { resume ≡ false → S.left source.new ≡ S.left source.old }
     ensures no_fault { resume ≡ false → S.faults source.new ≡ S.faults source.old }
     ensures line { Reports (change (E.held err.old) (E.held err.new) (E.faults err.old) (E.faults err.new)) (err_text result.cause) }
@@ -156,6 +161,10 @@ pub fn run_command<R: Threads + Wait + Sync, S: Source, K: Sink, E: Sink, G: Gat
     requires crowd { workers ≤ most_workers }
     ensures code { result.code ≡ code_of result.cause }
     ensures answer { AnswersRun d workers steps resume
+        (change (S.left source.old) (S.left source.new) (S.faults source.old) (S.faults source.new))
+        (change (K.held out.old) (K.held out.new) (K.faults out.old) (K.faults out.new)) result.cause }
+    ensures complete { NotRisen (S.faults source.old) (S.faults source.new) →
+        NotRisen (K.faults out.old) (K.faults out.new) → EndsRun d workers steps resume
         (change (S.left source.old) (S.left source.new) (S.faults source.old) (S.faults source.new))
         (change (K.held out.old) (K.held out.new) (K.faults out.old) (K.faults out.new)) result.cause }
     ensures unread { resume ≡ false → S.left source.new ≡ S.left source.old }

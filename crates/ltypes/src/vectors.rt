@@ -4,6 +4,7 @@ ghost use Rattle.std.specs.Prelude.{◌≡◌, ◌≤◌, ◌<◌, IfOk};
 ghost use Rattle.std.specs.Prelude as prelude;
 ghost use Rattle.lt_words.specs.Grammar.{IsDimension, most_entry};
 ghost use Rattle.ltypes.specs.Changes.{change};
+ghost use Rattle.ltypes.specs.Complete.{NotRisen, EndsRelevant};
 ghost use Rattle.ltypes.specs.Texts.{code_of, err_text};
 ghost use Rattle.ltypes.specs.Vectors.{AreOfEntry, AnswersRelevant};
 ghost use Rattle.ltypes.specs.Writings.{Reports};
@@ -80,6 +81,9 @@ pub fn relevant_command<S: Source, K: Sink, E: Sink>(
     ensures answer { AnswersRelevant d entry
         (change (S.left source.old) (S.left source.new) (S.faults source.old) (S.faults source.new))
         (change (K.held out.old) (K.held out.new) (K.faults out.old) (K.faults out.new)) result.cause }
+    ensures complete { NotRisen (S.faults source.old) (S.faults source.new) →
+        NotRisen (K.faults out.old) (K.faults out.new) → EndsRelevant d entry
+        (change (S.left source.old) (S.left source.new) (S.faults source.old) (S.faults source.new)) result.cause }
     ensures line { Reports (change (E.held err.old) (E.held err.new) (E.faults err.old) (E.faults err.new)) (err_text result.cause) }
 {
     write_relevant(alloc, d, entry, source, out).report(err)
