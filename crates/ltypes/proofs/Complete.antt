@@ -1,5 +1,5 @@
 -- Where no count of faults rose, the answers of commands are complete.
-use Rattle.std.proofs.Common.{◌≡◌, ◌≢◌, ◌⊎◌, ℕ, zero, suc, ℤ, ◌<◌, refl, arith, sym, ap, ◌∙◌, inl, inr, List, length, Bool, true, false}
+use Rattle.std.proofs.Common.{◌≡◌, ◌≢◌, ◌⊎◌, ℕ, zero, suc, ℤ, ◌<◌, refl, arith, sym, ap, ◌∙◌, inl, inr, List, [], length, get_or, Bool, true, false}
 use Rattle.std.proofs.lemmas.Bool.{cases_eq, cases_lt}
 use Rattle.lt_crew.specs.Runs.{IsSettledBelow}
 use Rattle.lt_model.specs.Atlases.{Classes, Event, Atlas, mark_at, place_at, event_at}
@@ -8,17 +8,19 @@ use Rattle.lt_model.specs.Walls.{IsAcross}
 use Rattle.lt_read.specs.declared.refusals.ReadError.TheVariants as read
 use Rattle.lt_read.specs.declared.refusals.Refusal.TheVariants.{TooLong}
 use Rattle.lt_words.specs.declared.words.Command.{Command}
-use Rattle.lt_words.specs.declared.words.Command.TheVariants.{Principal, Summary, Check, Run, Drill, Locate, Cover, Relevant, Shortest}
+use Rattle.lt_words.specs.declared.words.Command.TheVariants.{Principal, Summary, Check, Run, Drill, Locate, Cover, Relevant, Shortest, Section, Merge}
 use Rattle.ltypes.specs.declared.status.Cause.{Cause}
-use Rattle.ltypes.specs.declared.status.Cause.TheVariants.{Finished, Done, Unfinished, Refused, Memory, ReadFault, WriteFault, NoEntry}
+use Rattle.ltypes.specs.declared.status.Cause.TheVariants.{Finished, Done, Unfinished, Refused, Memory, ReadFault, WriteFault, NoEntry, MergeRefused, MergeStuck}
 use Rattle.ltypes.specs.Answers.{AnswersOn, AnswersCommand}
 use Rattle.ltypes.specs.Beginnings.{HasNoBeginning}
 use Rattle.ltypes.specs.Changes.{Change}
-use Rattle.ltypes.specs.Complete.{NotRisen, IsDecided, EndsRun, IsDoneOrMemory, EndsOn, EndsDrill, EndsForm, EndsRelevant, Ends}
+use Rattle.ltypes.specs.Complete.{NotRisen, IsDecided, EndsRun, IsDoneOrMemory, EndsOn, EndsDrill, EndsForm, EndsRelevant, EndsMerge, Ends}
 use Rattle.ltypes.specs.Drills.{AnswersDrill}
 use Rattle.ltypes.specs.Forms.{AnswersForm, IsOutput, refuses_none, IsTooLong, IsLocateText, IsCoverText, IsShortestText}
+use Rattle.ltypes.specs.Merges.{HasNoMerged, IsMergedText, AnswersMerge}
 use Rattle.ltypes.specs.Outputs.{IsPrincipalText}
 use Rattle.ltypes.specs.Runs.{AnswersRun}
+use Rattle.ltypes.specs.Sections.{IsSectionText, IsTooHeavy}
 use Rattle.ltypes.specs.Summaries.{summary_text, check_text}
 use Rattle.ltypes.specs.Texts.{code_of}
 use Rattle.ltypes.specs.Vectors.{AnswersRelevant}
@@ -118,6 +120,19 @@ relevant_ends d k source out WriteFault (rose, front) calm still = absurd (still
 relevant_ends d k source out (NoEntry entries) ((a, begins, same), past, none) calm still = inr (a, begins, omega (arith, same, past), ap NoEntry same)
 relevant_ends d k source out _ answer calm still = absurd answer
 
+unmerged : (d : ℕ) (source : Change) (cause : Cause) → HasNoMerged d source cause → NotRisen source.before source.now → EndsMerge d source cause
+unmerged d source Memory why calm = inl (inr refl)
+unmerged d source (MergeRefused part refusal) why calm = inr (omega arith, why)
+unmerged d source (MergeStuck entry mark) why calm = inr (omega arith, why)
+unmerged d source ReadFault (inl rose) calm = absurd (calm rose)
+unmerged d source ReadFault (inr (bytes, input, why)) calm = absurd why
+unmerged d source _ (inl why) calm = absurd why
+unmerged d source _ (inr (bytes, input, why)) calm = absurd why
+
+pub merge_ends : (d : ℕ) (source out : Change) (cause : Cause) → AnswersMerge d source out cause → NotRisen source.before source.now → NotRisen out.before out.now → EndsMerge d source cause
+merge_ends d source out cause (inl answer) calm still = inl (done_or_memory (IsMergedText d source) out cause answer still)
+merge_ends d source out cause (inr (why, none)) calm still = unmerged d source cause why calm
+
 -- ---- all commands
 
 pub command_ends : (c : Command) (source out : Change) (cause : Cause) → AnswersCommand c source out cause → NotRisen source.before source.now → NotRisen out.before out.now → Ends c source out cause
@@ -130,3 +145,5 @@ command_ends (Locate steps q) source out cause answer calm still = form_ends IsL
 command_ends (Cover steps q) source out cause answer calm still = form_ends (IsCoverText q) (IsTooLong q) steps q out cause answer still
 command_ends (Relevant d entry) source out cause answer calm still = relevant_ends d entry source out cause answer calm still
 command_ends (Shortest steps q) source out cause answer calm still = form_ends (IsShortestText q) refuses_none steps q out cause answer still
+command_ends (Section steps forms) source out cause answer calm still = form_ends (IsSectionText forms.items) (IsTooHeavy forms.items) steps (get_or forms.items 0 []) out cause answer still
+command_ends (Merge d) source out cause answer calm still = merge_ends d source out cause answer calm still

@@ -1,5 +1,5 @@
 -- Completeness: how each command ends where the words are accepted and no count of faults rose.
-use Rattle.std.specs.Prelude.{◌≡◌, ◌⊎◌, ℕ, ℤ, ◌<◌, ◌≤◌, List, length, Bool, true}
+use Rattle.std.specs.Prelude.{◌≡◌, ◌⊎◌, ℕ, ℤ, ◌<◌, ◌≤◌, List, [], length, get_or, Bool, true}
 use Rattle.std.specs.Io.KnownBytes.{Appends}
 use Rattle.lt_io.specs.Causes.{Rose}
 use Rattle.lt_crew.specs.Laws.{MeetsNoLimit}
@@ -11,7 +11,7 @@ use Rattle.lt_read.specs.declared.refusals.Refusal.{Refusal}
 use Rattle.lt_read.specs.declared.refusals.Refusal.TheVariants.{TooLong}
 use Rattle.lt_text.specs.Texts.{atlas_text}
 use Rattle.lt_words.specs.declared.words.Command.{Command}
-use Rattle.lt_words.specs.declared.words.Command.TheVariants.{Principal, Summary, Check, Run, Drill, Locate, Cover, Relevant, Shortest}
+use Rattle.lt_words.specs.declared.words.Command.TheVariants.{Principal, Summary, Check, Run, Drill, Locate, Cover, Relevant, Shortest, Section, Merge}
 use Rattle.lt_words.specs.Grammar.{InRange, Spells}
 use Rattle.ltypes.specs.declared.status.Cause.{Cause}
 use Rattle.ltypes.specs.declared.status.Cause.TheVariants.{Finished, Done, Refused, Memory, NoEntry}
@@ -19,7 +19,10 @@ use Rattle.ltypes.specs.Beginnings.{IsBeginning, HasNoBeginning}
 use Rattle.ltypes.specs.Changes.{Change}
 use Rattle.ltypes.specs.Drills.{IsDrilled}
 use Rattle.ltypes.specs.Forms.{HasNoOutput, refuses_none, IsTooLong}
+use Rattle.ltypes.specs.Merges.{HasNoMerged}
 use Rattle.ltypes.specs.Runs.{IsRunHere}
+use Rattle.ltypes.specs.Sections.{IsTooHeavy}
+use Rattle.ltypes.specs.Texts.{code_of}
 
 -- the count of faults didn't rise, and doesn't stand at the last value of a `u64`, from where it couldn't
 abbrev pub NotRisen : ℕ → ℕ → Type 0
@@ -83,6 +86,10 @@ IsNoEntry d k source cause = (a : Atlas) × IsBeginning d true source a × (leng
 abbrev pub EndsRelevant : ℕ → ℕ → Change → Cause → Type 0
 EndsRelevant d k source cause = EndsOn d true source cause ⊎ IsNoEntry d k source cause
 
+-- there is no text of two merged atlases, for a cause with a code from 7 on
+abbrev pub EndsMerge : ℕ → Change → Cause → Type 0
+EndsMerge d source cause = IsDoneOrMemory cause ⊎ ((7 ≤ code_of cause) × HasNoMerged d source cause)
+
 -- ---- all commands
 
 -- how each command ends
@@ -96,6 +103,8 @@ Ends (Locate steps q) source out cause = EndsForm refuses_none steps q cause
 Ends (Cover steps q) source out cause = EndsForm (IsTooLong q) steps q cause
 Ends (Relevant d entry) source out cause = EndsRelevant d entry source cause
 Ends (Shortest steps q) source out cause = EndsForm refuses_none steps q cause
+Ends (Section steps forms) source out cause = EndsForm (IsTooHeavy forms.items) steps (get_or forms.items 0 []) cause
+Ends (Merge d) source out cause = EndsMerge d source cause
 
 -- where the words are accepted, as those of a command, it ends so
 abbrev pub EndsWords : List (List ℕ) → Change → Change → Cause → Type 0

@@ -7,6 +7,7 @@ ghost use Rattle.lt_model.specs.Limits as limits;
 ghost use Rattle.lt_read.specs.Reading.{IsRead};
 ghost use Rattle.lt_words.specs.Grammar.{IsDimension};
 ghost use Rattle.ltypes.specs.Changes.{change};
+ghost use Rattle.ltypes.specs.Complete.{NotRisen, EndsMerge};
 ghost use Rattle.ltypes.specs.Merges.{IsEndAt, IsDivision, IsMergedOf, IsPartUnread, IsUnmerged, HasNoInput, AnswersMerge};
 ghost use Rattle.ltypes.specs.Texts.{code_of, err_text};
 ghost use Rattle.ltypes.specs.Writings.{Reports};
@@ -144,6 +145,9 @@ pub fn merge_command<S: Source, K: Sink, E: Sink>(
     ensures answer { AnswersMerge d
         (change (S.left source.old) (S.left source.new) (S.faults source.old) (S.faults source.new))
         (change (K.held out.old) (K.held out.new) (K.faults out.old) (K.faults out.new)) result.cause }
+    ensures complete { NotRisen (S.faults source.old) (S.faults source.new) →
+        NotRisen (K.faults out.old) (K.faults out.new) → EndsMerge d
+        (change (S.left source.old) (S.left source.new) (S.faults source.old) (S.faults source.new)) result.cause }
     ensures line { Reports (change (E.held err.old) (E.held err.new) (E.faults err.old) (E.faults err.new)) (err_text result.cause) }
 {
     write_merge(alloc, d, source, out).report(err)

@@ -9,6 +9,7 @@ ghost use Rattle.lt_text.specs.Texts.{start};
 ghost use Rattle.lt_triang.specs.Kept.{dimension_of};
 ghost use Rattle.lt_words.specs.Grammar.{AreGiven, most_crossings};
 ghost use Rattle.ltypes.specs.Changes.{change};
+ghost use Rattle.ltypes.specs.Complete.{NotRisen, EndsForm};
 ghost use Rattle.ltypes.specs.declared.status.Cause.TheVariants.{Memory};
 ghost use Rattle.ltypes.specs.Forms.{IsLocated, AnswersForm};
 ghost use Rattle.ltypes.specs.Sections.{IsCut, IsTooHeavy, IsSectionText, AnswersSection, live_line, dead_line, redundant_line, section_row_line, facets_line, section_text, one_if_facet, one_if_dead, facets, dead};
@@ -248,6 +249,8 @@ pub fn section_command<K: Sink, E: Sink>(
     requires forms { AreGiven forms.now }
     ensures code { result.code ≡ code_of result.cause }
     ensures answer { AnswersSection steps forms.now (change (K.held out.old) (K.held out.new) (K.faults out.old) (K.faults out.new)) result.cause }
+    ensures complete { NotRisen (K.faults out.old) (K.faults out.new) →
+        EndsForm (IsTooHeavy forms.now) steps (get_or forms.now 0 []) result.cause }
     ensures line { Reports (change (E.held err.old) (E.held err.new) (E.faults err.old) (E.faults err.new)) (err_text result.cause) }
 {
     write_section(alloc, forms, steps, out).report(err)
