@@ -8,7 +8,7 @@ ghost use Rattle.lt_geometry.specs.Regulators.{IsRegulatorAt};
 ghost use Rattle.lt_flip.specs.Outers.{HasNoFacet, IsOuterOf};
 
 use lt_lattice::{Normal, Point};
-use lt_regulator::regulator;
+use lt_regulator::has_regulator;
 use lt_triang::{Expression, Triangulation};
 
 /// A vertex beyond a facet of a class, and its expression over the class.
@@ -27,7 +27,7 @@ fn first_facet(t: &Triangulation, class: usize, normal: &Normal) -> Option<usize
     ensures { MatchOption result (HasNoFacet (dimension_of t.now) t.now (get_or t.now class []) normal.now) (λ i. (i < suc (dimension_of t.now)) × IsRegulatorAt (dimension_of t.now) t.now (get_or t.now class []) i normal.now) }
 {
     for facet in 0..usize::from(t.dimension()) + 1 {
-        if regulator(t, class, facet) == *normal {
+        if has_regulator(t, class, facet, normal) {
             return Some(facet);
         }
     }

@@ -1,5 +1,7 @@
 mod Multiples
 mod Excesses
+mod Numbered
+mod Tested
 mod Near
 mod Positive
 mod Collected

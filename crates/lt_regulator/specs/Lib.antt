@@ -1,1 +1,2 @@
 pub mod Regulated
+pub mod Signed

@@ -1,6 +1,6 @@
 //! The regulator of two members that share a facet, and the list of all.
 
-ghost use Rattle.std.specs.Prelude.{◌≡◌, ◌<◌, ◌≤◌, ◌^◌, suc, ℕ, ℤ, List, [], length, get_or, IfOk, ◌↔◌};
+ghost use Rattle.std.specs.Prelude.{◌≡◌, ◌<◌, ◌≤◌, ◌^◌, suc, ℕ, ℤ, List, [], length, get_or, IfOk, IsTrue, false, ◌↔◌};
 ghost use Rattle.std.specs.List.{All, Contains};
 ghost use Rattle.std.specs.List.Sorted.{IsStrictlySortedBy};
 ghost use Rattle.lt_model.specs.Order.{number_list_cmp};
@@ -11,6 +11,7 @@ ghost use Rattle.lt_geometry.specs.Regulators.{IsRegulatorAt};
 ghost use Rattle.lt_regulator.specs.Regulated.{IsOuterExcess, HasRegulatorsBelow};
 
 use crate::excess::excess_of;
+use crate::signs::signs_agree;
 use arrayvec::ArrayVec;
 use lt_lattice::Normal;
 use lt_model::Memory;
@@ -52,6 +53,41 @@ pub fn regulator(t: &Triangulation, class: usize, facet: usize) -> Normal
         Ok(_) => Normal::of(dimension, numbers.as_slice()),
         Err(_) => unreachable!(),
     }
+}
+
+/// Whether the signs of the excess of the outer vertex at the facet don't tell that its regulator is another normal.
+fn may_have(t: &Triangulation, class: usize, facet: usize, normal: &Normal) -> bool
+    requires delaunay { IsOfSomeForm t.now }
+    requires class { class < length t.now }
+    requires facet { facet < length (get_or t.now class []) }
+    ensures { result ≡ false → IsRegulatorAt (dimension_of t.now) t.now (get_or t.now class []) facet normal.now → ⊥ }
+{
+    let dimension = t.dimension();
+    if normal.dimension() != dimension {
+        return true;
+    }
+    let simplex = t.class(class);
+    let outer = t.outer(class, facet);
+    signs_agree(
+        usize::from(dimension),
+        simplex.vertices(),
+        &outer.vertex,
+        &outer.expression,
+        normal.numbers(),
+    )
+}
+
+/// Whether the normal is the regulator of the class at place `class` and its neighbour at facet `facet`. The triangulation is the
+/// Delaunay triangulation of some form.
+pub fn has_regulator(t: &Triangulation, class: usize, facet: usize, normal: &Normal) -> bool
+    requires delaunay { IsOfSomeForm t.now }
+    requires class { class < length t.now }
+    requires facet { facet < length (get_or t.now class []) }
+    ensures { IsTrue result ↔ IsRegulatorAt (dimension_of t.now) t.now (get_or t.now class []) facet normal.now }
+{
+    // It shows that each member has d + 1 facets.
+    let _dimension = t.dimension();
+    may_have(t, class, facet, normal) && regulator(t, class, facet) == *normal
 }
 
 /// Appends the regulators at the facets of the class at place `class`.

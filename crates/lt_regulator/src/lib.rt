@@ -3,5 +3,6 @@
 
 mod excess;
 mod facets;
+mod signs;
 
-pub use facets::{regulator, regulators};
+pub use facets::{has_regulator, regulator, regulators};
