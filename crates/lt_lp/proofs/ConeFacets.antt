@@ -1,5 +1,5 @@
 -- The normals of the wall rows of a right cone are exactly the facets.
-use Rattle.std.proofs.Common.{◌≡◌, ◌≢◌, ◌↔◌, ℕ, zero, suc, ℤ, pos, ◌*ℤ◌, ◌<ℤ◌, ◌≤ℤ◌, ◌<◌, Bool, true, false, refl, ap, arith, sym, ◌∙◌, subst, List, [], ◌∷◌, length, get_or, map, inl, inr}
+use Rattle.std.proofs.Common.{◌≡◌, ◌≢◌, ◌↔◌, ℕ, zero, suc, ℤ, pos, ◌*ℤ◌, ◌<ℤ◌, ◌≤ℤ◌, ◌<◌, true, refl, ap, arith, sym, ◌∙◌, subst, List, [], ◌∷◌, length, get_or, map, inl, inr}
 use Rattle.std.proofs.lemmas.Int.{ints}
 use Rattle.std.proofs.lemmas.List.{length-map, get_or_default}
 use Rattle.std.specs.List.{Contains, AllByRecursion}

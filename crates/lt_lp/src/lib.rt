@@ -15,6 +15,7 @@ mod rule;
 mod sums;
 mod verdicts;
 mod walls;
+mod weighing;
 
 pub use checks::check;
 pub use cone_forms::form_of;

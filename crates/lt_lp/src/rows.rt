@@ -8,8 +8,9 @@ ghost use Rattle.lt_tableau.specs.Errors.{AreOfDimension};
 ghost use Rattle.lt_lp.specs.Positive.{IsPositiveAt};
 ghost use Rattle.lt_lp.specs.Verdicts.{IsHeavyLp};
 
-use crate::deciding::decide;
+use crate::deciding::decide_light;
 use crate::verdicts::{LpError, Row};
+use crate::weighing::weigh;
 use lt_lattice::Normal;
 use std::alloc::Global;
 
@@ -22,9 +23,10 @@ pub fn rows_of(alloc: Global, normals: &[Normal]) -> Result<Vec<Row>, LpError>
     ensures light { IfOk result (λ _. (d : ℕ) → AreOfDimension d normals.now → 0 < length normals.now → weight d normals.now < weight_limit) }
     ensures heavy { IfErr result (λ e. (d : ℕ) → AreOfDimension d normals.now → IsHeavyLp (weight d normals.now) e) }
 {
+    weigh(normals)?;
     let mut rows: Vec<Row> = Vec::new(alloc);
     for k in 0..normals.len() {
-        match decide(alloc, normals, k) {
+        match decide_light(alloc, normals, k) {
             Ok(verdict) => {
                 let row = Row {
                     normal: normals[k].copy(),
@@ -35,7 +37,7 @@ pub fn rows_of(alloc: Global, normals: &[Normal]) -> Result<Vec<Row>, LpError>
                     Err(_) => return Err(LpError::Memory),
                 }
             }
-            Err(error) => return Err(error),
+            Err(_) => return Err(LpError::Memory),
         }
     }
     Ok(rows)

@@ -1,17 +1,17 @@
 //! The pivot rule.
 
-ghost use Rattle.std.specs.Prelude.{◌≡◌, ◌≢◌, ◌≤◌, ◌<◌, ◌-◌, ◌^◌, ℕ, suc, pos, ◌<ℤ◌, ◌≤ℤ◌, [], length, get_or, true, false, IfSome, IfNone, IfOk, IfErr, nat_abs};
+ghost use Rattle.std.specs.Prelude.{◌≡◌, ◌≢◌, ◌≤◌, ◌<◌, ◌-◌, ◌^◌, ℕ, suc, pos, ◌<ℤ◌, ◌≤ℤ◌, [], length, get_or, true, false, IfSome, IfNone, IfOk, nat_abs};
 ghost use Rattle.std.specs.List.{All};
 ghost use Rattle.lt_model.specs.Limits.{weight, weight_limit};
 ghost use Rattle.lt_tableau.specs.Table.{IsTableau, count_of, entry_of, units_of};
 ghost use Rattle.lt_tableau.specs.System.{system_of};
-ghost use Rattle.lt_tableau.specs.Errors.{AreOfDimension, IsHeavyError};
+ghost use Rattle.lt_tableau.specs.Errors.{AreOfDimension};
 ghost use Rattle.lt_lp.specs.Rule.{objective_of, gain_of, number_of, IsBefore, IsLeaving, IsReady, IsStopped, IsEarlier};
 
 use crate::sums::{first_unit, gain, objective, unit_sums};
 use lt_lattice::Normal;
-use lt_tableau::{Tableau, TableauError};
-use std::alloc::Global;
+use lt_tableau::Tableau;
+use std::alloc::{AllocError, Global};
 
 /// The first column whose reduced cost is negative, unless the objective is 0.
 fn entering(t: &Tableau) -> Option<usize>
@@ -157,19 +157,18 @@ fn run(tableau: Tableau) -> Tableau
     t
 }
 
-/// The tableau of the k-th normal at which the pivot rule stops.
-pub fn stopped(alloc: Global, normals: &[Normal], k: usize) -> Result<Tableau, TableauError>
+/// The tableau of the k-th normal at which the pivot rule stops. The weight of the normals is below 2^112.
+pub fn stopped(alloc: Global, normals: &[Normal], k: usize) -> Result<Tableau, AllocError>
     requires place { k < length normals.now }
     requires same { All (λ x. length x ≡ length (get_or normals.now 0 [])) normals.now }
+    requires light { (d : ℕ) → AreOfDimension d normals.now → weight d normals.now < weight_limit }
     ensures ready { IfOk result (λ t. IsReady t) }
     ensures stopped { IfOk result (λ t. IsStopped t) }
     ensures system { IfOk result (λ t. t.system ≡ system_of normals.now k) }
     ensures rows { IfOk result (λ t. t.rows ≡ suc (length (get_or normals.now 0 []))) }
-    ensures light { IfOk result (λ t. (d : ℕ) → AreOfDimension d normals.now → weight d normals.now < weight_limit) }
-    ensures heavy { IfErr result (λ e. (d : ℕ) → AreOfDimension d normals.now → IsHeavyError (weight d normals.now) e) }
 {
     let _ = normals[k].numbers();
-    match Tableau::new(alloc, normals, k) {
+    match Tableau::light(alloc, normals, k) {
         Ok(tableau) => {
             let _ = tableau.rows();
             Ok(run(tableau))

@@ -1,6 +1,6 @@
 //! Sums over the rows of a tableau whose basic column is a unit column: the objective and the reduced costs.
 
-ghost use Rattle.std.specs.Prelude.{◌≡◌, ◌<◌, ◌≤◌, ◌-◌, ◌+◌, ◌*◌, ◌^◌, ℕ, length, nat_abs};
+ghost use Rattle.std.specs.Prelude.{◌≡◌, ◌<◌, ◌≤◌, ◌-◌, ◌+◌, ◌*◌, ◌^◌, ◌*ℤ◌, ℕ, length, nat_abs};
 ghost use Rattle.lt_model.specs.Padded.{lookup};
 ghost use Rattle.lt_tableau.specs.Table.{units_of};
 ghost use Rattle.lt_lp.specs.Rule.{objective_of, gain_of};
@@ -44,21 +44,39 @@ fn unit_sum(t: &Tableau, unit: usize) -> i128
     sum
 }
 
-/// The sums of all unit columns.
-pub fn unit_sums(t: &Tableau) -> [i128; 22]
+/// The number in 64 bits.
+fn word(x: i128) -> i64
+    requires { nat_abs x ≤ 22 * 2 ^ 56 }
+    ensures { result ≡ x }
+{
+    x as i64
+}
+
+/// The product of a sum and a number.
+fn multiple(sum: i64, number: i128) -> i128
+    requires sum { nat_abs sum ≤ 22 * 2 ^ 56 }
+    requires number { nat_abs number < 2 ^ 56 }
+    ensures value { result ≡ sum *ℤ number }
+    ensures small { nat_abs result ≤ 22 * 2 ^ 112 }
+{
+    sum as i128 * number
+}
+
+/// The sums of all unit columns. They fit into 64 bits, so that a product with one takes one multiplication.
+pub fn unit_sums(t: &Tableau) -> [i64; 22]
     ensures values { (q : ℕ) → q < t.now.rows → lookup result q ≡ gain_of t.now (units_of t.now + q) }
     ensures small { (q : ℕ) → nat_abs (lookup result q) ≤ 22 * 2 ^ 56 }
 {
-    let mut sums = [0i128; 22];
+    let mut sums = [0i64; 22];
     for unit in 0..t.rows() {
-        sums[unit] = unit_sum(t, unit);
+        sums[unit] = word(unit_sum(t, unit));
     }
     sums
 }
 
 /// The sum of the column's numbers in the rows with a unit variable: the reduced cost with its sign changed. By the rows' law it is
 /// the pairing of the column of the system with the sums of the unit columns.
-pub fn gain(t: &Tableau, sums: &[i128; 22], column: usize) -> i128
+pub fn gain(t: &Tableau, sums: &[i64; 22], column: usize) -> i128
     requires inside { column < length t.now.system - 1 }
     requires values { (q : ℕ) → q < t.now.rows → lookup sums.now q ≡ gain_of t.now (units_of t.now + q) }
     requires small { (q : ℕ) → nat_abs (lookup sums.now q) ≤ 22 * 2 ^ 56 }
@@ -66,7 +84,7 @@ pub fn gain(t: &Tableau, sums: &[i128; 22], column: usize) -> i128
 {
     let mut sum: i128 = 0;
     for q in 0..t.rows() {
-        sum += sums[q] * t.number(q, column);
+        sum += multiple(sums[q], t.number(q, column));
     }
     sum
 }

@@ -21,7 +21,7 @@ fn turned(t: &Tableau) -> ArrayVec<i128, 21>
     let sums = unit_sums(t);
     let mut numbers: ArrayVec<i128, 21> = ArrayVec::new();
     for r in 0..t.rows() - 1 {
-        numbers.push(-sums[r]);
+        numbers.push(-(sums[r] as i128));
     }
     numbers
 }

@@ -1,6 +1,6 @@
-use Rattle.std.proofs.Common.{◌≡◌, ◌<◌, ◌≤◌, ◌+◌, ◌*◌, ◌^◌, ◌*ℤ◌, ◌+ℤ◌, sym, ◌∙◌, ap, ℕ, ℤ, pos, nat_abs, get_or, arith, rules, FitsSigned, to_z, mul-le-mul}
-use Rattle.std.specs.Int.{w128}
-use Rattle.std.proofs.lemmas.Int.{ints, to_z-of_z, unsigned_abs-mul, fits_signed_from_abs}
+use Rattle.std.proofs.Common.{◌≡◌, ◌<◌, ◌≤◌, ◌+◌, ◌*◌, ◌^◌, ◌*ℤ◌, ◌+ℤ◌, sym, ◌∙◌, ap, ap₂, ℕ, ℤ, pos, nat_abs, get_or, arith, rules, FitsSigned, to_z}
+use Rattle.std.specs.Int.{w64, w128}
+use Rattle.std.proofs.lemmas.Int.{ints, to_z-of_z, fits_signed_from_abs}
 use Rattle.lt_model.specs.Padded.{lookup}
 use Rattle.lt_tableau.specs.Numbers.{column_at, sum_below}
 use Rattle.lt_tableau.specs.Table.{units_of}
@@ -9,48 +9,39 @@ use Rattle.lt_tableau.proofs.Sums.{lookup_is, sum_more, sum_same}
 use Rattle.lt_lp.proofs.Signs.{gain_law}
 use Rattle.lt_lp.proofs.sums.gain.Goals as goal
 
-sizes : (s x y : ℤ) (q : ℕ) → q < 22 → nat_abs s ≤ q * (22 * 2 ^ 112) → nat_abs x ≤ 22 * 2 ^ 56 → nat_abs y < 2 ^ 56 → record { product : FitsSigned w128 (x *ℤ y); sum : FitsSigned w128 (s +ℤ x *ℤ y); small : nat_abs (s +ℤ x *ℤ y) ≤ (q + 1) * (22 * 2 ^ 112) }
-sizes s x y q l h k m =
-    let p : nat_abs (x *ℤ y) ≤ (22 * 2 ^ 56) * 2 ^ 56 = (let m2 : nat_abs y ≤ 2 ^ 56 = omega arith in rw (unsigned_abs-mul x y) (mul-le-mul k m2)) in
-    let a : nat_abs (s +ℤ x *ℤ y) ≤ nat_abs s + nat_abs (x *ℤ y) = omega (arith, ints) in
+sizes : (s x : ℤ) (q : ℕ) → q < 22 → nat_abs s ≤ q * (22 * 2 ^ 112) → nat_abs x ≤ 22 * 2 ^ 112 → record { sum : FitsSigned w128 (s +ℤ x); small : nat_abs (s +ℤ x) ≤ (q + 1) * (22 * 2 ^ 112) }
+sizes s x q l h k =
+    let a : nat_abs (s +ℤ x) ≤ nat_abs s + nat_abs x = omega (arith, ints) in
     record {
-      product = fits_signed_from_abs w128 (x *ℤ y) (omega arith);
-      sum = fits_signed_from_abs w128 (s +ℤ x *ℤ y) (omega arith);
+      sum = fits_signed_from_abs w128 (s +ℤ x) (omega arith);
       small = omega arith;
     }
 
-pub overflow_mul-sum : goal.overflow_mul-sum
-overflow_mul-sum c =
-    let w = c.rows-q-end.ensures.tableau.few_rows in
-    let e = lookup_is c.args.sums.now c.loop-q.q in
-    let x : FitsSigned w128 (get_or c.args.sums.now c.loop-q.q (pos 0)) = search rules in
-    let y : FitsSigned w128 c.number.result = search rules in
-    simp to_z-of_z (sizes (to_z w128 c.loop-q.sum-bits) (get_or c.args.sums.now c.loop-q.q (pos 0)) c.number.result c.loop-q.q (omega arith) c.loop-q.invariant.small (rw e at (c.requires.small c.loop-q.q)) c.number.ensures.small).product
+pub multiple-sum-requires-clause-sum : goal.multiple-sum-requires-clause-sum
+multiple-sum-requires-clause-sum c =
+    let x : FitsSigned w64 (get_or c.args.sums.now c.loop-q.q (pos 0)) = search rules in
+    simp to_z-of_z (rw (lookup_is c.args.sums.now c.loop-q.q) at (c.requires.small c.loop-q.q))
 
 pub overflow_add-sum : goal.overflow_add-sum
 overflow_add-sum c =
     let w = c.rows-q-end.ensures.tableau.few_rows in
-    let e = lookup_is c.args.sums.now c.loop-q.q in
-    let x : FitsSigned w128 (get_or c.args.sums.now c.loop-q.q (pos 0)) = search rules in
-    let y : FitsSigned w128 c.number.result = search rules in
-    let z = sizes (to_z w128 c.loop-q.sum-bits) (get_or c.args.sums.now c.loop-q.q (pos 0)) c.number.result c.loop-q.q (omega arith) c.loop-q.invariant.small (rw e at (c.requires.small c.loop-q.q)) c.number.ensures.small in
-    let p = z.product in
-    simp to_z-of_z z.sum
+    let x : FitsSigned w128 c.multiple-sum.result = search rules in
+    simp to_z-of_z (sizes (to_z w128 c.loop-q.sum-bits) c.multiple-sum.result c.loop-q.q (omega arith) c.loop-q.invariant.small c.multiple-sum.ensures.small).sum
 
 pub loop-q-preserved : goal.loop-q-preserved
 loop-q-preserved c =
     let w = c.rows-q-end.ensures.tableau.few_rows in
     let e = lookup_is c.args.sums.now c.loop-q.q in
-    let x : FitsSigned w128 (get_or c.args.sums.now c.loop-q.q (pos 0)) = search rules in
-    let y : FitsSigned w128 c.number.result = search rules in
-    let z = sizes (to_z w128 c.loop-q.sum-bits) (get_or c.args.sums.now c.loop-q.q (pos 0)) c.number.result c.loop-q.q (omega arith) c.loop-q.invariant.small (rw e at (c.requires.small c.loop-q.q)) c.number.ensures.small in
-    let p = z.product in
+    let x : FitsSigned w128 c.multiple-sum.result = search rules in
+    let y : FitsSigned w64 (get_or c.args.sums.now c.loop-q.q (pos 0)) = search rules in
+    let n : FitsSigned w128 c.number.result = search rules in
+    let z = sizes (to_z w128 c.loop-q.sum-bits) c.multiple-sum.result c.loop-q.q (omega arith) c.loop-q.invariant.small c.multiple-sum.ensures.small in
     let r = z.sum in
     let terms = λ (i : ℕ). lookup c.args.sums.now i *ℤ lookup (column_at c.args.t.now.system c.args.column) i in
     let v : to_z w128 c.loop-q.sum-bits ≡ sum_below c.loop-q.q terms = c.loop-q.invariant.value in
-    let n = c.number.ensures.value in
+    let p : c.multiple-sum.result ≡ terms c.loop-q.q = (simp to_z-of_z at c.multiple-sum.ensures.value) ∙ ap₂ ◌*ℤ◌ (sym e) c.number.ensures.value in
     record {
-      value = simp to_z-of_z (rw (v, n, sym e) (sym (sum_more c.loop-q.q terms)));
+      value = simp to_z-of_z (rw (v, p) (sym (sum_more c.loop-q.q terms)));
       small = simp to_z-of_z z.small;
     }
 

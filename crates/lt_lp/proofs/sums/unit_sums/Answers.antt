@@ -1,5 +1,5 @@
 use Rattle.std.proofs.Common.{refl, ◌≡◌, ◌<◌, ◌≤◌, ◌+◌, ◌*◌, ◌^◌, sym, ◌∙◌, ℕ, zero, suc, ℤ, pos, List, [], length, set, length-set, get_or-set_same, get_or-set_other, nat_abs, arith, rules, FitsSigned}
-use Rattle.std.specs.Int.{w128}
+use Rattle.std.specs.Int.{w64, w128}
 use Rattle.std.proofs.lemmas.Int.{to_z-of_z}
 use native.Mathlib.Decide.{ℕ_discrete}
 use Rattle.lt_model.specs.Padded.{lookup}
@@ -44,5 +44,7 @@ loop-unit-preserved c =
     let i = c.loop-unit.invariant in
     let t = c.args.t.now in
     let w = c.rows-unit-end.ensures.tableau.few_rows in
-    let x : FitsSigned w128 c.unit_sum.result = search rules in
-    simp to_z-of_z (step (λ (q : ℕ). gain_of t (units_of t + q)) (22 * 2 ^ 56) c.loop-unit.sums c.loop-unit.unit c.unit_sum.result i.size (omega arith) i.values i.small c.unit_sum.ensures.value c.unit_sum.ensures.small)
+    let x : FitsSigned w64 c.word.result = search rules in
+    let y : FitsSigned w128 c.unit_sum.result = search rules in
+    let e : c.word.result ≡ c.unit_sum.result = simp to_z-of_z at c.word.ensures in
+    simp to_z-of_z (step (λ (q : ℕ). gain_of t (units_of t + q)) (22 * 2 ^ 56) c.loop-unit.sums c.loop-unit.unit c.word.result i.size (omega arith) i.values i.small (e ∙ c.unit_sum.ensures.value) (rw e c.unit_sum.ensures.small))

@@ -1,5 +1,5 @@
 use Rattle.std.proofs.Common.{rules, arith, ◌≡◌, ◌∙◌, sym, ap, ◌≤◌, ◌<◌, ◌^◌, ◌*◌, ◌+◌, ◌-ℤ◌, ◌++◌, ◌∷◌, [], ℕ, ℤ, pos, neg_ℤ, length, nat_abs, slice_index_or, FitsSigned, subst}
-use Rattle.std.specs.Int.{w128}
+use Rattle.std.specs.Int.{w64, w128}
 use Rattle.std.proofs.lemmas.Int.{ints, to_z-of_z, fits_signed_from_abs}
 use Rattle.lt_model.specs.Cones.{AreBelow}
 use Rattle.lt_tableau.specs.Table.{units_of}
@@ -10,8 +10,9 @@ use Rattle.lt_lp.proofs.walls.turned.Goals as goal
 
 pub overflow_sub-sums : goal.overflow_sub-sums
 overflow_sub-sums c =
-    let x : FitsSigned w128 (slice_index_or c.unit_sums-sums.result c.loop-r.r (pos 0)) = search rules in
+    let y : FitsSigned w64 (slice_index_or c.unit_sums-sums.result c.loop-r.r (pos 0)) = search rules in
     let s = rw (lookup_is c.unit_sums-sums.result c.loop-r.r) at (c.unit_sums-sums.ensures.small c.loop-r.r) in
+    let x : FitsSigned w128 (slice_index_or c.unit_sums-sums.result c.loop-r.r (pos 0)) = fits_signed_from_abs w128 (slice_index_or c.unit_sums-sums.result c.loop-r.r (pos 0)) (omega (arith, ints, s)) in
     simp to_z-of_z (fits_signed_from_abs w128 (pos 0 -ℤ slice_index_or c.unit_sums-sums.result c.loop-r.r (pos 0)) (omega (arith, ints, s)))
 
 pub push-requires : goal.push-requires
@@ -24,15 +25,16 @@ pub loop-r-preserved : goal.loop-r-preserved
 loop-r-preserved c =
     let t = c.args.t.now in
     let r = c.loop-r.r in
-    let y = λ (q : ℕ). neg_ℤ (gain_of t (units_of t + q)) in
+    let z = λ (q : ℕ). neg_ℤ (gain_of t (units_of t + q)) in
     let u = slice_index_or c.unit_sums-sums.result r (pos 0) in
-    let x : FitsSigned w128 u = search rules in
+    let y : FitsSigned w64 u = search rules in
     let s = rw (lookup_is c.unit_sums-sums.result r) at (c.unit_sums-sums.ensures.small r) in
+    let x : FitsSigned w128 u = fits_signed_from_abs w128 u (omega (arith, ints, s)) in
     let fn : FitsSigned w128 (pos 0 -ℤ u) = fits_signed_from_abs w128 (pos 0 -ℤ u) (omega (arith, ints, s)) in
     let g : u ≡ gain_of t (units_of t + r) = sym (lookup_is c.unit_sums-sums.result r) ∙ c.unit_sums-sums.ensures.values r (omega arith) in
     let n : pos 0 -ℤ u ≡ neg_ℤ u = omega (arith, ints) in
     let m : c.push.new.self.items ≡ c.loop-r.numbers.items ++ (pos 0 -ℤ u) ∷ [] = simp to_z-of_z at c.push.ensures.items in
-    m ∙ rw (n, g, c.loop-r.invariant) (sym (listed_more r y))
+    m ∙ rw (n, g, c.loop-r.invariant) (sym (listed_more r z))
 
 pub returns-clause-below : goal.returns-clause-below
 returns-clause-below c =

@@ -9,7 +9,7 @@ use Rattle.lt_lattice.proofs.Lengths.{at_most_21}
 use Rattle.lt_lp.proofs.Combined.{case_scale, case_few}
 use Rattle.lt_lp.proofs.OneAlternative.{no_wall}
 use Rattle.lt_lp.proofs.Decided.{case_of, wall_occupied, decided_wall, decided_combination, some_numbers}
-use Rattle.lt_lp.proofs.deciding.decide.Goals as goal
+use Rattle.lt_lp.proofs.deciding.decide_light.Goals as goal
 
 -- the number of coefficients, by the dimension that the normal at the place tells
 told : (normals : List (List ℤ)) (k d : ℕ) (x : List ℤ) → k < length normals → x ≡ get_or normals k [] → length x ≡ numbers_of_form d → length (get_or normals k []) ≡ length (get_or normals 0 []) → length (get_or normals 0 []) ≡ numbers_of_form d
