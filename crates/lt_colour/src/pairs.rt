@@ -1,8 +1,9 @@
 //! Signatures of pairs: of a class and its neighbour at a facet.
 
-ghost use Rattle.std.specs.Prelude.{◌≡◌, ◌<◌, ◌≤◌, [], length, get_or};
+ghost use Rattle.std.specs.Prelude.{◌≡◌, ◌<◌, ◌≤◌, ◌^◌, ◌∷◌, [], length, get_or, nat_abs};
 ghost use Rattle.std.specs.List.Sorted.{IsPermutation, IsSorted};
 ghost use Rattle.std.specs.Ordering.{int_cmp};
+ghost use Rattle.lt_model.specs.Cones.{AreBelow};
 ghost use Rattle.lt_model.specs.Facets.{without};
 ghost use Rattle.lt_triang.specs.Kept.{dimension_of};
 ghost use Rattle.lt_colour.specs.Signatures.{IsInOrder, AreNumbersFrom, IsPairSignature};
@@ -49,22 +50,79 @@ impl Default for PairSignature {
     }
 }
 
+/// The same in 64 bits, which is compared and moved faster.
+#[derive(Drop, PartialEq, Eq, PartialOrd, Ord)]
+pub struct ShortSignature {
+    numbers: ArrayVec<i64, 8>,
+}
+
+impl Model for ShortSignature {
+    ghost use Rattle.std.specs.Prelude.{List, ℤ};
+
+    ghost Value = { List ℤ };
+
+    ghost view = { λ s. s.numbers.items };
+
+    ghost inverse = { λ x. record { numbers = record { items = x } } };
+}
+
+impl ShortSignature {
+    /// The numbers.
+    pub fn numbers(&self) -> &[i64]
+        ensures value { result.now ≡ self.now }
+        ensures few { length result.now ≤ 8 }
+    {
+        self.numbers.as_slice()
+    }
+
+    /// The same numbers in 128 bits.
+    fn widened(&self) -> PairSignature
+        ensures { result ≡ self.now }
+    {
+        let mut numbers: ArrayVec<i128, 8> = ArrayVec::new();
+        for number in self.numbers() {
+            numbers.push(*number as i128);
+        }
+        PairSignature { numbers }
+    }
+}
+
+impl Default for ShortSignature {
+    /// No numbers.
+    fn default() -> ShortSignature
+        ensures { result ≡ [] }
+    {
+        ShortSignature {
+            numbers: ArrayVec::new(),
+        }
+    }
+}
+
+/// The number in 64 bits.
+fn word(x: i128) -> i64
+    requires { nat_abs x < 2 ^ 59 }
+    ensures { result ≡ x }
+{
+    x as i64
+}
+
 /// The numbers but that at place `i`.
-fn others(numbers: &[i128], i: usize) -> ArrayVec<i128, 7>
+fn others(numbers: &[i128], i: usize) -> ArrayVec<i64, 7>
     requires few { length numbers.now ≤ 7 }
     requires place { i < length numbers.now }
+    requires below { AreBelow (2 ^ 59) numbers.now }
     ensures { result.items ≡ without i numbers.now }
 {
-    let mut all: ArrayVec<i128, 7> = ArrayVec::new();
+    let mut all: ArrayVec<i64, 7> = ArrayVec::new();
     for number in numbers {
-        all.push(*number);
+        all.push(word(*number));
     }
     let _removed = all.remove(i);
     all
 }
 
 /// The same numbers in ascending order.
-fn sorted(numbers: ArrayVec<i128, 7>) -> ArrayVec<i128, 7>
+fn sorted(numbers: ArrayVec<i64, 7>) -> ArrayVec<i64, 7>
     ensures permutation { IsPermutation numbers.items result.items }
     ensures ascending { IsSorted int_cmp result.items }
 {
@@ -74,18 +132,30 @@ fn sorted(numbers: ArrayVec<i128, 7>) -> ArrayVec<i128, 7>
 }
 
 /// The signature that the numbers of an expression make.
-fn signature_from(scale: i128, coefficients: &[i128], facet: usize) -> PairSignature
+fn signature_from(scale: i128, coefficients: &[i128], facet: usize) -> ShortSignature
     requires few { length coefficients.now ≤ 7 }
     requires place { facet < length coefficients.now }
+    requires below { AreBelow (2 ^ 59) (scale ∷ coefficients.now) }
     ensures { AreNumbersFrom facet scale coefficients.now result }
 {
-    let mut numbers: ArrayVec<i128, 8> = ArrayVec::new();
-    numbers.push(scale);
-    numbers.push(coefficients[facet]);
+    let mut numbers: ArrayVec<i64, 8> = ArrayVec::new();
+    numbers.push(word(scale));
+    numbers.push(word(coefficients[facet]));
     for number in sorted(others(coefficients, facet)).as_slice() {
         numbers.push(*number);
     }
-    PairSignature { numbers }
+    ShortSignature { numbers }
+}
+
+/// The signature of the class at place `class` and its neighbour at facet `facet`, in 64 bits.
+pub fn short_signature(t: &Triangulation, class: usize, facet: usize) -> ShortSignature
+    requires class { class < length t.now }
+    requires facet { facet < length (get_or t.now class []) }
+    ensures { IsPairSignature (dimension_of t.now) t.now (get_or t.now class []) facet result }
+{
+    let _dimension = t.dimension();
+    let expression = &t.outer(class, facet).expression;
+    signature_from(expression.scale, expression.coefficients.as_slice(), facet)
 }
 
 /// The signature of the class at place `class` and its neighbour at facet `facet`.
@@ -94,7 +164,5 @@ pub fn pair_signature(t: &Triangulation, class: usize, facet: usize) -> PairSign
     requires facet { facet < length (get_or t.now class []) }
     ensures { IsPairSignature (dimension_of t.now) t.now (get_or t.now class []) facet result }
 {
-    let _dimension = t.dimension();
-    let expression = &t.outer(class, facet).expression;
-    signature_from(expression.scale, expression.coefficients.as_slice(), facet)
+    short_signature(t, class, facet).widened()
 }

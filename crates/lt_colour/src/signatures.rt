@@ -7,7 +7,7 @@ ghost use Rattle.lt_model.specs.Order.{number_list_cmp};
 ghost use Rattle.lt_triang.specs.Kept.{dimension_of, IsOfSomeForm};
 ghost use Rattle.lt_colour.specs.Signatures.{ArePairSignatures, IsClassSignature, SignaturesAreInvariant};
 
-use crate::pairs::{PairSignature, pair_signature};
+use crate::pairs::{PairSignature, ShortSignature, pair_signature, short_signature};
 use arrayvec::ArrayVec;
 use lt_triang::Triangulation;
 
@@ -23,28 +23,38 @@ pub fn pair_signatures(t: &Triangulation, class: usize) -> ArrayVec<PairSignatur
     all
 }
 
-/// The same signatures in ascending order.
-fn sorted(pairs: ArrayVec<PairSignature, 7>) -> ArrayVec<PairSignature, 7>
-    ensures permutation { IsPermutation pairs.items result.items }
-    ensures ascending { IsSorted number_list_cmp result.items }
+/// The same in 64 bits.
+fn short_signatures(t: &Triangulation, class: usize) -> ArrayVec<ShortSignature, 7>
+    requires class { class < length t.now }
+    ensures { ArePairSignatures (dimension_of t.now) t.now (get_or t.now class []) result.items }
 {
-    let mut all = pairs;
-    all.as_mut_slice().sort_unstable();
+    let mut all: ArrayVec<ShortSignature, 7> = ArrayVec::new();
+    for facet in 0..usize::from(t.dimension()) + 1 {
+        all.push(short_signature(t, class, facet));
+    }
     all
 }
 
+/// Puts the signatures into ascending order.
+fn sort(pairs: &mut [ShortSignature])
+    ensures permutation { IsPermutation pairs.old pairs.new }
+    ensures ascending { IsSorted number_list_cmp pairs.new }
+{
+    pairs.sort_unstable();
+}
+
 /// Appends the numbers.
-fn push_numbers(all: &mut ArrayVec<i128, 56>, numbers: &[i128])
+fn push_numbers(all: &mut ArrayVec<i128, 56>, numbers: &[i64])
     requires { length all.old.items + length numbers.now ≤ 56 }
     ensures { all.new.items ≡ all.old.items ++ numbers.now }
 {
     for number in numbers {
-        all.push(*number);
+        all.push(*number as i128);
     }
 }
 
 /// The numbers of the signatures, one after the other.
-fn joined(pairs: &[PairSignature]) -> ArrayVec<i128, 56>
+fn joined(pairs: &[ShortSignature]) -> ArrayVec<i128, 56>
     requires { length pairs.now ≤ 7 }
     ensures { result.items ≡ flat pairs.now }
 {
@@ -62,8 +72,9 @@ pub fn signature(t: &Triangulation, class: usize) -> ArrayVec<i128, 56>
     requires class { class < length t.now }
     ensures { IsClassSignature (dimension_of t.now) t.now (get_or t.now class []) result.items }
 {
-    let ascending = sorted(pair_signatures(t, class));
-    joined(ascending.as_slice())
+    let mut pairs = short_signatures(t, class);
+    sort(pairs.as_mut_slice());
+    joined(pairs.as_slice())
 }
 
 /// A matrix that carries one Delaunay triangulation onto another takes each member to one with the same signature.
