@@ -7,13 +7,14 @@ ghost use Rattle.lt_model.specs.Vectors.{IsPrimitive};
 ghost use Rattle.lt_model.specs.Cones.{AreBelow};
 ghost use Rattle.lt_model.specs.Simplices.{IsExpression};
 ghost use Rattle.lt_lattice.specs.Ranges.{IsWithin};
+ghost use Rattle.lt_triang.specs.Flat.{columns_of};
 
 use crate::classes::Class;
 use crate::dependencies::{total_of, with_first};
 use crate::vertices::{columns, widened};
 use arrayvec::ArrayVec;
 use lt_lattice::Point;
-use lt_solve::solve;
+use lt_solve::{Columns, solve};
 
 /// A positive multiple of a point as a sum of multiples of the vertices of a class: `scale` times the point is the sum of the
 /// vertices times the coefficients, and `scale` is the sum of the coefficients. The greatest common divisor of all is 1.
@@ -50,8 +51,28 @@ impl Class {
         ensures primitive { IsPrimitive (result.scale ∷ result.coefficients.items) }
         ensures below { AreBelow (2 ^ 59) (result.scale ∷ result.coefficients.items) }
     {
+        self.expression_by(&self.columns(), x)
+    }
+
+    /// The differences of the other vertices from the first, as columns.
+    pub(crate) fn columns(&self) -> Columns
+        ensures { result ≡ columns_of self.now }
+    {
         let _dimension = self.dimension();
-        match solve(&columns(self.vertices()), widened(x.coords()).as_slice()) {
+        columns(self.vertices())
+    }
+
+    /// The same from the columns of the class, which are made once for many points.
+    pub(crate) fn expression_by(&self, columns: &Columns, x: &Point) -> Expression
+        requires columns { columns.now ≡ columns_of self.now }
+        requires dimension { length self.now ≡ suc (length x.now) }
+        requires near { All (IsWithin (2 * span_limit (length x.now))) x.now }
+        ensures expression { IsExpression self.now x.now result.scale result.coefficients.items }
+        ensures primitive { IsPrimitive (result.scale ∷ result.coefficients.items) }
+        ensures below { AreBelow (2 ^ 59) (result.scale ∷ result.coefficients.items) }
+    {
+        let _dimension = self.dimension();
+        match solve(columns, widened(x.coords()).as_slice()) {
             Ok(found) => {
                 let nums = found.nums.as_slice();
                 Expression {

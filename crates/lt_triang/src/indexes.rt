@@ -3,6 +3,7 @@
 ghost use Rattle.std.specs.Prelude.{◌≡◌, ◌<◌, ◌≤◌, ◌++◌, ◌∷◌, suc, ℕ, List, [], length, get_or, set, IfOk, IfSome, MatchOption};
 ghost use Rattle.lt_triang.specs.Across.{IsOpen, IsFacing, IsNotFacing};
 ghost use Rattle.lt_triang.specs.Codes as codes;
+ghost use Rattle.lt_triang.specs.Flat.{columns_of};
 ghost use Rattle.lt_triang.specs.Indexed.{buckets_of, IsIndexBelow, IsIndex, ArePlaces, AreNotFacing, IsFirstIn, IsOuterIn, HasOuter, IsKept};
 ghost use Rattle.lt_triang.specs.Kept.{AreClasses};
 
@@ -11,6 +12,7 @@ use crate::codes::facet_code;
 use crate::neighbours::{Across, Neighbour, Outer, class_at, facing, member};
 use lt_lattice::Point;
 use lt_model::Memory;
+use lt_solve::Columns;
 use std::alloc::Global;
 
 /// The bucket, of as many as there are classes, of a facet with this code.
@@ -95,12 +97,14 @@ fn facing_at(
     d: usize,
     classes: &[Class],
     n: usize,
+    columns: &Columns,
     i: usize,
     class: usize,
     vertex: usize,
 ) -> Option<(Point, Outer)>
     requires members { AreClasses d classes.now }
     requires class { n < length classes.now }
+    requires columns { columns.now ≡ columns_of (get_or classes.now n []) }
     requires place { i < suc d }
     requires class_too { class < length classes.now }
     requires place_too { vertex < suc d }
@@ -110,7 +114,7 @@ fn facing_at(
     if class == n && vertex == i {
         None
     } else {
-        facing(d, class_at(classes, n), i, member(classes, class), vertex)
+        facing(d, class_at(classes, n), columns, i, member(classes, class), vertex)
     }
 }
 
@@ -119,11 +123,13 @@ fn first_in(
     d: usize,
     classes: &[Class],
     n: usize,
+    columns: &Columns,
     i: usize,
     facets: &[(usize, usize)],
 ) -> Option<Across>
     requires members { AreClasses d classes.now }
     requires class { n < length classes.now }
+    requires columns { columns.now ≡ columns_of (get_or classes.now n []) }
     requires place { i < suc d }
     requires facets { ArePlaces d classes.now facets.now }
     ensures first { MatchOption result (AreNotFacing d classes.now (get_or classes.now n []) i facets.now (length facets.now)) (λ a. IsFirstIn d classes.now (get_or classes.now n []) i facets.now a.neighbour.class a.neighbour.shift a.neighbour.vertex) }
@@ -131,7 +137,7 @@ fn first_in(
 {
     for q in 0..facets.len() {
         let (class, vertex) = facets[q];
-        if let Some((shift, outer)) = facing_at(d, classes, n, i, class, vertex) {
+        if let Some((shift, outer)) = facing_at(d, classes, n, columns, i, class, vertex) {
             let neighbour = Neighbour {
                 class,
                 shift,
@@ -149,15 +155,17 @@ pub fn first_across(
     classes: &[Class],
     index: &[Vec<(usize, usize)>],
     n: usize,
+    columns: &Columns,
     i: usize,
 ) -> Option<Across>
     requires members { AreClasses d classes.now }
     requires index { IsIndex d classes.now (buckets_of index.now) }
     requires class { n < length classes.now }
+    requires columns { columns.now ≡ columns_of (get_or classes.now n []) }
     requires place { i < suc d }
     ensures { MatchOption result (IsOpen d classes.now (get_or classes.now n []) i) (IsKept d classes.now (get_or classes.now n []) i) }
 {
     let bucket = bucket_of(d, classes, n, i);
     let facets = index[bucket].as_slice();
-    first_in(d, classes, n, i, facets)
+    first_in(d, classes, n, columns, i, facets)
 }

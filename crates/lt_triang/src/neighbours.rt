@@ -9,11 +9,13 @@ ghost use Rattle.lt_model.specs.Simplices.{IsClass, AllOfDimension, translate};
 ghost use Rattle.lt_lattice.specs.Ranges.{IsWithin};
 ghost use Rattle.lt_triang.specs.Bounds.{AreWithin, AreNear};
 ghost use Rattle.lt_triang.specs.Across.{HasFacet, IsFacing, IsNotFacing};
+ghost use Rattle.lt_triang.specs.Flat.{columns_of};
 ghost use Rattle.lt_triang.specs.Indexed.{IsOuterIn};
 
 use crate::classes::Class;
 use crate::expressions::Expression;
 use lt_lattice::Point;
+use lt_solve::Columns;
 
 /// Where a member lies across a facet: the member's place, the shift that moves it there, and the place of its vertex outside.
 #[derive(Drop)]
@@ -154,8 +156,17 @@ fn vertex_moved(next: &[Point], j: usize, by: &Point) -> Point
     }
 }
 
-/// The shift by which the class `next` lies across facet `i` of the class `s`, with its vertex `j` outside, and that vertex.
-pub fn facing(d: usize, s: &Class, i: usize, next: &[Point], j: usize) -> Option<(Point, Outer)>
+/// The shift by which the class `next` lies across facet `i` of the class `s`, with its vertex `j` outside, and that vertex. `columns` are
+/// those of the class `s`.
+pub fn facing(
+    d: usize,
+    s: &Class,
+    columns: &Columns,
+    i: usize,
+    next: &[Point],
+    j: usize,
+) -> Option<(Point, Outer)>
+    requires columns { columns.now ≡ columns_of s.now }
     requires low { 2 ≤ d }
     requires high { d ≤ 6 }
     requires class { IsClass d s.now }
@@ -173,7 +184,7 @@ pub fn facing(d: usize, s: &Class, i: usize, next: &[Point], j: usize) -> Option
     }
     let shift = shift_of(d, points, i, next, j);
     let vertex = vertex_moved(next, j, &shift);
-    let expression = s.expression(&vertex);
+    let expression = s.expression_by(columns, &vertex);
     if expression.coefficients[i] < 0 {
         Some((shift, Outer { vertex, expression }))
     } else {

@@ -9,7 +9,7 @@ ghost use Rattle.lt_triang.specs.declared.errors.TriangError.TheVariants.{OpenFa
 use crate::classes::Class;
 use crate::errors::TriangError;
 use crate::indexes::{first_across, index_of};
-use crate::neighbours::Across;
+use crate::neighbours::{Across, class_at};
 use lt_model::Memory;
 use std::alloc::Global;
 use std::marker::Model;
@@ -67,9 +67,10 @@ fn row_of(
     ensures row { IfOk result (IsRow d classes.now (get_or classes.now n [])) }
     ensures open { (class facet : ℕ) → result ≡ Err (OpenFacet class facet) → (class ≡ n) × IsFirstOpenOf d classes.now (get_or classes.now n []) facet }
 {
+    let columns = class_at(classes, n).columns();
     let mut facets = Vec::new(alloc);
     for i in 0..d + 1 {
-        match first_across(d, classes, index, n, i) {
+        match first_across(d, classes, index, n, &columns, i) {
             Some(found) => match facets.push(found) {
                 Ok(()) => {}
                 Err(_) => return Err(TriangError::Memory),

@@ -11,6 +11,7 @@ facing-requires c =
     let mine = Contains-get_or t c.args.n [] c.requires.class in
     let theirs = Contains-get_or t c.args.class [] c.requires.class_too in
     rw (c.class_at.ensures, c.member.ensures) (record {
+      columns = c.requires.columns;
       low = h.low;
       high = h.high;
       class = h.classes (get_or t c.args.n []) mine;

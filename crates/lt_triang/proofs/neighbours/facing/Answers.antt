@@ -64,14 +64,14 @@ vertex_moved-vertex-requires-clause-within c =
     let b = bounds d c.args.s.now c.args.i c.args.next.now c.args.j _ r.low r.class r.class_too r.place r.place_too r.near r.near_too (rw c.vertices-points.ensures at c.shift_of-shift.ensures) in
     within_more (span_limit d + span_limit d) (2 ^ 20) _ (omega (arith, twice_limit d)) b.outer
 
-pub expression-expression-requires-clause-dimension : goal.expression-expression-requires-clause-dimension
-expression-expression-requires-clause-dimension c =
+pub expression_by-expression-requires-clause-dimension : goal.expression_by-expression-requires-clause-dimension
+expression_by-expression-requires-clause-dimension c =
     let r = c.requires in
     let b = bounds c.args.d c.args.s.now c.args.i c.args.next.now c.args.j _ r.low r.class r.class_too r.place r.place_too r.near r.near_too (rw c.vertices-points.ensures at c.shift_of-shift.ensures) in
     r.class.simplex.count ∙ ap suc (sym (ap length c.vertex_moved-vertex.ensures ∙ b.outer_dimension))
 
-pub expression-expression-requires-clause-near : goal.expression-expression-requires-clause-near
-expression-expression-requires-clause-near c =
+pub expression_by-expression-requires-clause-near : goal.expression_by-expression-requires-clause-near
+expression_by-expression-requires-clause-near c =
     let r = c.requires in
     let d = c.args.d in
     let b = bounds d c.args.s.now c.args.i c.args.next.now c.args.j _ r.low r.class r.class_too r.place r.place_too r.near r.near_too (rw c.vertices-points.ensures at c.shift_of-shift.ensures) in
@@ -93,7 +93,7 @@ returns-then-deref-i-lt0-clause-facing c =
     let s = c.args.s.now in
     let b = bounds d s c.args.i c.args.next.now c.args.j _ r.low r.class r.class_too r.place r.place_too r.near r.near_too (rw c.vertices-points.ensures at c.shift_of-shift.ensures) in
     let moved = rw (sym (rw c.vertices-points.ensures at c.shift_of-shift.ensures)) at ((rw c.vertices-points.ensures at c.are_parallel.ensures).0 c.if-not-are_parallel.false) in
-    let o = c.expression-expression in
+    let o = c.expression_by-expression in
     let e = o.ensures.expression in
     let here : c.args.i < length o.result.coefficients.items = omega (arith, e.one_each, r.class.simplex.count, r.place) in
     let small : nat_abs (number_at c.args.i o.result.coefficients.items) < 2 ^ 59 = All-tail (λ x. nat_abs x < 2 ^ 59) o.result.scale o.result.coefficients.items o.ensures.below c.args.i (pos 0) here in
@@ -106,7 +106,7 @@ returns-else-deref-i-lt0-clause-facing c =
     let r = c.requires in
     let d = c.args.d in
     let s = c.args.s.now in
-    let o = c.expression-expression in
+    let o = c.expression_by-expression in
     let e = o.ensures.expression in
     let here : c.args.i < length o.result.coefficients.items = omega (arith, e.one_each, r.class.simplex.count, r.place) in
     let small : nat_abs (number_at c.args.i o.result.coefficients.items) < 2 ^ 59 = All-tail (λ x. nat_abs x < 2 ^ 59) o.result.scale o.result.coefficients.items o.ensures.below c.args.i (pos 0) here in
