@@ -44,7 +44,7 @@ pub same_bucket : (d : ℕ) (t : List (List (List ℤ))) (n i m j : ℕ) (p : Li
 same_bucket d t n i m j p all h =
     let e : translate p (without j (get_or t m [])) ≡ without i (get_or t n []) = sym (without-translate p j (get_or t m [])) ∙ h.facet in
     let c : facet_code (without j (get_or t m [])) ≡ facet_code (without i (get_or t n [])) = sym (facet_code-moved d p (without j (get_or t m [])) h.dimension (all_without (λ v. length v ≡ d) j (get_or t m []) all)) ∙ ap facet_code e in
-    ap (λ x. nat_abs x % length t) c
+    ap (λ x. nat_abs x % (4 * length t)) c
 
 -- ---- bounds
 

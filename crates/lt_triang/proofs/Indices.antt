@@ -1,5 +1,5 @@
 -- The index of facets: how it grows, and why the first facet in a bucket is the first of all.
-use Rattle.std.proofs.Common.{◌≡◌, ℕ, suc, ℤ, ◌<◌, ◌≤◌, refl, ap, arith, sym, ◌∙◌, subst, List, [], ◌∷◌, ◌++◌, inl, inr, ◌⊎◌, length, get_or, set, Vec, Option, None, Some}
+use Rattle.std.proofs.Common.{◌*◌, ◌≡◌, ℕ, suc, ℤ, ◌<◌, ◌≤◌, refl, ap, arith, sym, ◌∙◌, subst, List, [], ◌∷◌, ◌++◌, inl, inr, ◌⊎◌, length, get_or, set, Vec, Option, None, Some}
 use Rattle.std.specs.List.{Contains}
 use Rattle.std.proofs.lemmas.Bool.{cases_eq, cases_lt, cases_order}
 use Rattle.std.proofs.lemmas.List.{get_or_append_left, get_or_push, length_push, get_or-set_same, get_or-set_other, length-set, length-map, map-set, get_or-map, get_or_default}
@@ -38,7 +38,7 @@ not_itself a h = not_both a a h h
 
 -- ---- how the index grows
 
-pub index_begins : (d : ℕ) (t : List (List (List ℤ))) (bs : List (List Facet)) → length bs ≡ length t → ((b : ℕ) → get_or bs b [] ≡ []) → IsIndexBelow d t 0 0 bs
+pub index_begins : (d : ℕ) (t : List (List (List ℤ))) (bs : List (List Facet)) → length bs ≡ 4 * length t → ((b : ℕ) → get_or bs b [] ≡ []) → IsIndexBelow d t 0 0 bs
 index_begins d t bs l none = record {
   count = l;
   each = λ n j p e. none_before n j e;

@@ -1,5 +1,5 @@
 -- Numbers by which facets are found: the same for all translates of a facet.
-use Rattle.std.specs.Prelude.{ℕ, ℤ, pos, ◌+ℤ◌, ◌-ℤ◌, ◌*ℤ◌, ◌%◌, List, [], ◌∷◌, map, get_or, length, nat_abs}
+use Rattle.std.specs.Prelude.{ℕ, ℤ, pos, ◌+ℤ◌, ◌-ℤ◌, ◌*ℤ◌, ◌%◌, ◌*◌, List, [], ◌∷◌, map, get_or, length, nat_abs}
 use Rattle.lt_model.specs.Facets.{without}
 
 -- the numbers as digits to the base 31, after the number h
@@ -24,4 +24,4 @@ facet_code vs = point_digits (pos 0) (code_differences vs)
 
 -- the bucket, of so many, of facet j of the class at place n
 abbrev pub bucket_of : List (List (List ℤ)) → ℕ → ℕ → ℕ
-bucket_of t n j = nat_abs (facet_code (without j (get_or t n []))) % length t
+bucket_of t n j = nat_abs (facet_code (without j (get_or t n []))) % (4 * length t)

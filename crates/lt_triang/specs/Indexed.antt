@@ -1,5 +1,5 @@
 -- An index of facets, and the first of them that lies across a facet.
-use Rattle.std.specs.Prelude.{ℕ, suc, ℤ, ◌<◌, ◌≡◌, ◌⊎◌, ◌^◌, ◌∷◌, List, [], map, length, get_or, Vec}
+use Rattle.std.specs.Prelude.{ℕ, suc, ℤ, ◌<◌, ◌≡◌, ◌⊎◌, ◌^◌, ◌*◌, ◌∷◌, List, [], map, length, get_or, Vec}
 use Rattle.std.specs.List.{Contains}
 use Rattle.lt_triang.specs.Across.{IsFacing, IsNotFacing, IsFirstAcross}
 use Rattle.lt_triang.specs.Codes.{bucket_of}
@@ -25,7 +25,7 @@ buckets_of vs = map (λ v. v.items) vs
 
 -- the facets that come before facet k of the class at place m, each in its bucket, ascending
 pub record IsIndexBelow (d : ℕ) (t : List (List (List ℤ))) (m k : ℕ) (bs : List (List (ℕ × ℕ))) : Type 0 where
-  pub count : length bs ≡ length t
+  pub count : length bs ≡ 4 * length t
   pub each : (n j : ℕ) → j < suc d → IsEarlier (n, j) (m, k) → Contains (get_or bs (bucket_of t n j) []) (n, j)
   pub before : (b q : ℕ) → q < size_at bs b → IsEarlier (entry_at bs b q) (m, k)
   pub ascending : (b p q : ℕ) → p < q → q < size_at bs b → IsEarlier (entry_at bs b p) (entry_at bs b q)

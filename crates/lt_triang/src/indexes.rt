@@ -1,6 +1,6 @@
 //! An index of the facets of classes: facets that are translates of one another stand in one bucket.
 
-ghost use Rattle.std.specs.Prelude.{◌≡◌, ◌<◌, ◌≤◌, ◌++◌, ◌∷◌, suc, ℕ, List, [], length, get_or, set, IfOk, IfSome, MatchOption};
+ghost use Rattle.std.specs.Prelude.{◌≡◌, ◌<◌, ◌≤◌, ◌*◌, ◌++◌, ◌∷◌, suc, ℕ, List, [], length, get_or, set, IfOk, IfSome, MatchOption};
 ghost use Rattle.lt_triang.specs.Across.{IsOpen, IsFacing, IsNotFacing};
 ghost use Rattle.lt_triang.specs.Codes as codes;
 ghost use Rattle.lt_triang.specs.Flat.{columns_of};
@@ -15,16 +15,16 @@ use lt_model::Memory;
 use lt_solve::Columns;
 use std::alloc::Global;
 
-/// The bucket, of as many as there are classes, of a facet with this code.
+/// The bucket of a facet. There are four for each class, so that most hold the facets of one translate alone.
 fn bucket_of(d: usize, classes: &[Class], n: usize, j: usize) -> usize
     requires members { AreClasses d classes.now }
     requires class { n < length classes.now }
     requires place { j < suc d }
     ensures value { result ≡ codes.bucket_of classes.now n j }
-    ensures within { result < length classes.now }
+    ensures within { result < 4 * length classes.now }
 {
     let code = facet_code(d, member(classes, n), j).unsigned_abs();
-    (code % classes.len() as u64) as usize
+    (code % (4 * classes.len() as u64)) as usize
 }
 
 /// As many empty buckets.
@@ -84,7 +84,7 @@ pub fn index_of(
     requires { AreClasses d classes.now }
     ensures { IfOk result (λ bs. IsIndex d classes.now (buckets_of bs.items)) }
 {
-    let mut buckets = empty_buckets(alloc, classes.len())?;
+    let mut buckets = empty_buckets(alloc, 4 * classes.len())?;
     for n in 0..classes.len() {
         put_class(&mut buckets, d, classes, n)?;
     }
@@ -114,7 +114,14 @@ fn facing_at(
     if class == n && vertex == i {
         None
     } else {
-        facing(d, class_at(classes, n), columns, i, member(classes, class), vertex)
+        facing(
+            d,
+            class_at(classes, n),
+            columns,
+            i,
+            member(classes, class),
+            vertex,
+        )
     }
 }
 

@@ -5,7 +5,6 @@ use mir.Syntax.{w128}
 use Rattle.lt_model.specs.Vectors.{total}
 use Rattle.lt_model.specs.Simplices.{IsClass, IsExpression}
 use Rattle.lt_solve.specs.Systems.{IsSolution, IsColumnDependency, answer_limit}
-use Rattle.lt_triang.specs.Flat.{columns_of}
 use Rattle.lt_triang.proofs.Beyond.{expression_of, no_dependency}
 use Rattle.lt_triang.proofs.Columned.{columns-class}
 use Rattle.lt_triang.proofs.Expressed.{primitive_more, below_all}
