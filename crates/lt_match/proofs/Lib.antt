@@ -15,3 +15,4 @@ pub mod Firsts
 pub mod Spans
 pub mod Beyond
 pub mod Selected
+mod Told

@@ -1,12 +1,12 @@
 //! Signatures of facets.
 
 ghost use Rattle.std.specs.Prelude.{◌≡◌, ◌<◌, ◌≤◌, ◌+◌, ◌++◌, [], length, get_or};
-ghost use Rattle.lt_triang.specs.Kept.{dimension_of};
+ghost use Rattle.lt_triang.specs.Kept.{dimension_of, IsOfSomeForm};
 ghost use Rattle.lt_colour.specs.Signatures.{AreClassSignatures};
 ghost use Rattle.lt_match.specs.Beyond.{AreFacetSignatures};
 
 use arrayvec::ArrayVec;
-use lt_colour::{ClassSignature, PairSignature, pair_signatures};
+use lt_colour::{ClassSignature, PairSignature, pair_signatures, signature};
 use lt_triang::Triangulation;
 use std::marker::Model;
 
@@ -48,12 +48,13 @@ fn push_numbers(all: &mut ArrayVec<i128, 64>, numbers: &[i128])
 }
 
 /// The signature of a pair, then that of a class.
-fn joined(pair: &PairSignature, beyond: &ClassSignature) -> FacetSignature
+fn joined(pair: &PairSignature, beyond: &[i128]) -> FacetSignature
+    requires { length beyond.now ≤ 56 }
     ensures { result ≡ pair.now ++ beyond.now }
 {
     let mut numbers: ArrayVec<i128, 64> = ArrayVec::new();
     push_numbers(&mut numbers, pair.numbers());
-    push_numbers(&mut numbers, beyond.numbers());
+    push_numbers(&mut numbers, beyond);
     FacetSignature { numbers }
 }
 
@@ -71,7 +72,23 @@ pub fn facet_signatures(
     let mut all: ArrayVec<FacetSignature, 7> = ArrayVec::new();
     for facet in 0..usize::from(t.dimension()) + 1 {
         let neighbour = t.neighbour(class, facet);
-        all.push(joined(&pairs[facet], &classes[neighbour.class]));
+        all.push(joined(&pairs[facet], classes[neighbour.class].numbers()));
+    }
+    all
+}
+
+/// The same without the signatures of all classes: those of the neighbours alone are made. The triangulation is the Delaunay
+/// triangulation of some form.
+pub fn near_signatures(t: &Triangulation, class: usize) -> ArrayVec<FacetSignature, 7>
+    requires delaunay { IsOfSomeForm t.now }
+    requires class { class < length t.now }
+    ensures { AreFacetSignatures (dimension_of t.now) t.now (get_or t.now class []) result.items }
+{
+    let pairs = pair_signatures(t, class);
+    let mut all: ArrayVec<FacetSignature, 7> = ArrayVec::new();
+    for facet in 0..usize::from(t.dimension()) + 1 {
+        let next = t.neighbour(class, facet);
+        all.push(joined(&pairs[facet], signature(t, next.class).as_slice()));
     }
     all
 }

@@ -11,15 +11,15 @@ ghost use Rattle.lt_geometry.specs.Carrying.{IsCandidate};
 ghost use Rattle.lt_geometry.proofs.Rearranged.{IsDistinct};
 ghost use Rattle.lt_triang.specs.Bounds.{AreNear};
 ghost use Rattle.lt_triang.specs.Kept.{IsTriangulation, dimension_of, IsOfSomeForm};
-ghost use Rattle.lt_colour.specs.Signatures.{AreClassSignatures};
+ghost use Rattle.lt_colour.specs.Signatures.{AreClassSignatures, IsClassSignature};
 ghost use Rattle.lt_match.specs.Bases.{IsBasis};
 ghost use Rattle.lt_match.specs.Matches.{in_order, BeginsWith, HasNoMatch, IsMatch, IsFirstOrder, IsFirstMatch, ArePlaces, AreSigned, IsBeginning};
 
 use crate::bases::{Basis, basis_of, matrix_taking};
 use crate::carrying::{all_go, comes_back};
-use crate::facets::{FacetSignature, facet_signatures};
+use crate::facets::{FacetSignature, facet_signatures, near_signatures};
 use arrayvec::ArrayVec;
-use lt_colour::{ClassSignature, class_signatures};
+use lt_colour::{ClassSignature, class_signatures, signature};
 use lt_lattice::{Matrix, Point};
 use lt_model::Memory;
 use lt_triang::Triangulation;
@@ -147,27 +147,27 @@ fn search(
     None
 }
 
-/// The places of the members of `to` that have the signature of the first class of `from`, in ascending order. A match takes that class
+/// The places of the members of `to` that have the signature `own` of the first class of `from`, in ascending order. A match takes that class
 /// to one of them.
 fn candidate_places(
     alloc: Global,
     d: usize,
     from: &Triangulation,
     to: &Triangulation,
-    own: &[ClassSignature],
+    own: &[i128],
     others: &[ClassSignature],
 ) -> Result<Vec<usize>, Memory>
     requires origin { IsTriangulation d from.now }
     requires target { IsTriangulation d to.now }
     requires delaunay { IsOfSomeForm from.now }
     requires delaunay_too { IsOfSomeForm to.now }
-    requires signatures { AreClassSignatures (dimension_of from.now) from.now own.now }
-    requires signatures_too { AreClassSignatures (dimension_of to.now) to.now others.now }
+    requires signature { IsClassSignature (dimension_of from.now) from.now (get_or from.now 0 []) own.now }
+    requires signatures { AreClassSignatures (dimension_of to.now) to.now others.now }
     ensures { IfOk result (λ places. ArePlaces d from.now to.now places.items) }
 {
     let mut places = Vec::new(alloc);
     for n in 0..to.len() {
-        if others[n] == own[0] {
+        if others[n].numbers() == own {
             match places.push(n) {
                 Ok(()) => {}
                 Err(_) => return Err(Memory),
@@ -182,7 +182,6 @@ fn first_match(
     d: usize,
     from: &Triangulation,
     to: &Triangulation,
-    own: &[ClassSignature],
     others: &[ClassSignature],
     places: &[usize],
 ) -> Option<Matrix>
@@ -190,14 +189,13 @@ fn first_match(
     requires target { IsTriangulation d to.now }
     requires delaunay { IsOfSomeForm from.now }
     requires delaunay_too { IsOfSomeForm to.now }
-    requires signatures { AreClassSignatures (dimension_of from.now) from.now own.now }
-    requires signatures_too { AreClassSignatures (dimension_of to.now) to.now others.now }
+    requires signatures { AreClassSignatures (dimension_of to.now) to.now others.now }
     requires count { length from.now ≡ length to.now }
     requires places { ArePlaces d from.now to.now places.now }
     ensures { MatchOption result ((n : ℕ) → n < length to.now → (q : List ℕ) → HasNoMatch d from.now to.now (get_or to.now n []) q) (λ u. (length u ≡ d * d) × IsFirstMatch d from.now to.now (rows d u)) }
 {
     let basis = basis_of(d, from.class(0).vertices());
-    let first = facet_signatures(from, own, 0);
+    let first = near_signatures(from, 0);
     for n in places {
         let facets = facet_signatures(to, others, *n);
         let s = to.class(*n).vertices();
@@ -237,15 +235,8 @@ pub fn match_types(
     if from.len() != to.len() {
         return Ok(None);
     }
-    let own = class_signatures(alloc, from)?;
+    let own = signature(from, 0);
     let others = class_signatures(alloc, to)?;
     let places = candidate_places(alloc, d, from, to, own.as_slice(), others.as_slice())?;
-    Ok(first_match(
-        d,
-        from,
-        to,
-        own.as_slice(),
-        others.as_slice(),
-        places.as_slice(),
-    ))
+    Ok(first_match(d, from, to, others.as_slice(), places.as_slice()))
 }

@@ -1,21 +1,11 @@
-use Rattle.std.proofs.Common.{◌≡◌, ◌<◌, ◌-◌, ◌∙◌, suc, ℕ, ℤ, List, [], length, get_or, arith, ap, subst}
+use Rattle.std.proofs.Common.{◌≡◌, ◌<◌, ◌∙◌, suc, ℤ, List, [], length, get_or, arith, ap}
 use Rattle.std.proofs.lemmas.List.{get_or_default}
-use Rattle.lt_model.specs.Facets.{IsNeighbour}
-use Rattle.lt_triang.specs.Across.{IsFirstAcross}
-use Rattle.lt_triang.specs.Kept.{IsTriangulation, dimension_of}
-use Rattle.lt_triang.proofs.Expressed.{dimension_is, member_dimension}
-use Rattle.lt_triang.proofs.Made.{neighbour_from}
+use Rattle.lt_triang.specs.Kept.{dimension_of}
+use Rattle.lt_triang.proofs.Expressed.{dimension_is}
 use Rattle.lt_colour.proofs.Numbers.{each_more}
 use Rattle.lt_match.specs.Beyond.{IsFacetSignature}
+use Rattle.lt_match.proofs.Told.{told}
 use Rattle.lt_match.proofs.facets.facet_signatures.Goals as goal
-
-less_one : (d n : ℕ) → n ≡ suc d → n - 1 ≡ d
-less_one d n e = omega arith
-
--- what the first neighbour at a facet of a member says
-told : (d m i n : ℕ) (t : List (List (List ℤ))) (p : List ℤ) (j : ℕ) → IsTriangulation d t → m < length t → IsFirstAcross (length (get_or t m []) - 1) t (get_or t m []) i n p j → IsNeighbour (dimension_of t) t (get_or t m []) i (get_or t n []) p j
-told d m i n t p j h lm f =
-    subst (λ (e : ℕ). IsNeighbour e t (get_or t m []) i (get_or t n []) p j) (less_one d (length (get_or t m [])) (member_dimension d t m h lm) ∙ dimension_is d t h) (neighbour_from (length (get_or t m []) - 1) t (get_or t m []) i n p j f)
 
 pub bounds-deref-facet : goal.bounds-deref-facet
 bounds-deref-facet c =
@@ -46,7 +36,7 @@ loop-facet-preserved c =
       neighbour = told c.dimension.result c.args.class i n t c.neighbour-neighbour.result.shift c.neighbour-neighbour.result.vertex c.dimension.ensures c.requires.class c.neighbour-neighbour.ensures;
       beyond = c.index-classes-neighbour.result;
       beyond_is = rw second (c.requires.signatures.each n c.neighbour-neighbour.ensures.member);
-      is = c.joined.ensures;
+      is = rw c.numbers.ensures.value at c.joined.ensures;
     } in
     record {
       count = omega (arith, c.push.ensures.len, c.loop-facet.invariant.count);

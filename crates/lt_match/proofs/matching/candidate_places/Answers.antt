@@ -1,4 +1,4 @@
-use Rattle.std.proofs.Common.{arith, ◌≡◌, ◌<◌, ◌∙◌, List, ℤ, [], length, get_or, sym}
+use Rattle.std.proofs.Common.{arith, ◌≡◌, ◌<◌, ◌∙◌, List, ℤ, [], length, get_or}
 use Rattle.std.proofs.lemmas.List.{get_or_default}
 use Rattle.std.specs.Cmp.Rules.{signed_items}
 use Rattle.lt_match.proofs.Selected.{all_places, place_passed, place_taken, no_match}
@@ -10,18 +10,16 @@ loop-n-preserved c =
     let d = c.args.d in
     let from = c.args.from.now in
     let to = c.args.to.now in
-    let own = c.args.own.now in
     let others = c.args.others.now in
-    let a : List ℤ = get_or own 0 [] in
+    let a : List ℤ = c.args.own.now in
     let b : List ℤ = get_or others c.loop-n.n [] in
     let at : c.loop-n.n < length to = omega (arith, c.loop-n-test.true, c.len-n-end.ensures) in
-    let l0 : 0 < length own = omega (arith, c.requires.origin.occupied, c.requires.signatures.count) in
-    let ln : c.loop-n.n < length others = omega (arith, at, c.requires.signatures_too.count) in
+    let ln : c.loop-n.n < length others = omega (arith, at, c.requires.signatures.count) in
     elim c.if-eq.branch [
       | then-eq+in-Ok w ↦ rw (w.places-is, w.in-Ok.ensures.items) (place_taken d from to c.loop-n.n c.loop-n.places.items c.loop-n.invariant)
       | else-eq w ↦
-          let differ : b ≡ a → ⊥ = λ e. (let p = (signed_items c.index-others-n.result c.index-own-0.result).1 (c.index-others-n.is ∙ get_or_default others c.loop-n.n c.index-others-n.result [] ln ∙ e ∙ get_or_default own 0 [] c.index-own-0.result l0 ∙ sym c.index-own-0.is) in let f = w.if-eq.ensures in cc) in
-          let none = no_match d from to c.loop-n.n a b c.requires.origin c.requires.target c.requires.delaunay c.requires.delaunay_too at (c.requires.signatures.each 0 (omega (arith, c.requires.origin.occupied))) (c.requires.signatures_too.each c.loop-n.n at) differ in
+          let differ : b ≡ a → ⊥ = λ e. (let p = (signed_items c.numbers.result.now a).1 (c.numbers.ensures.value ∙ c.index-others-n.is ∙ get_or_default others c.loop-n.n c.index-others-n.result [] ln ∙ e) in let f = w.if-eq.ensures in cc) in
+          let none = no_match d from to c.loop-n.n a b c.requires.origin c.requires.target c.requires.delaunay c.requires.delaunay_too at c.requires.signature (c.requires.signatures.each c.loop-n.n at) differ in
           rw w.places-is (place_passed d from to c.loop-n.n c.loop-n.places.items c.loop-n.invariant none)
     ]
 

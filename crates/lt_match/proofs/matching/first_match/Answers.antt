@@ -19,7 +19,7 @@ pub search-requires-clause-signed : goal.search-requires-clause-signed
 search-requires-clause-signed c =
     let n = get_or c.args.places.now c.loop-n.n-index 0 in
     rw (c.as_slice.ensures.value, c.as_slice-in-loop-n.ensures.value, c.vertices-s.ensures, c.class-in-loop-n.ensures)
-    (are_signed c.args.d c.args.from.now c.args.to.now n c.facet_signatures-first.result.items c.facet_signatures-facets.result.items c.requires.origin c.requires.target c.requires.delaunay c.requires.delaunay_too (c.requires.places.within c.loop-n.n-index c.loop-n-test.true) c.facet_signatures-first.ensures c.facet_signatures-facets.ensures)
+    (are_signed c.args.d c.args.from.now c.args.to.now n c.near_signatures-first.result.items c.facet_signatures-facets.result.items c.requires.origin c.requires.target c.requires.delaunay c.requires.delaunay_too (c.requires.places.within c.loop-n.n-index c.loop-n-test.true) c.near_signatures-first.ensures c.facet_signatures-facets.ensures)
 
 pub returns-in-Some : goal.returns-in-Some
 returns-in-Some c =
