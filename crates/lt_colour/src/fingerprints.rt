@@ -46,7 +46,10 @@ pub fn class_signatures(alloc: Global, t: &Triangulation) -> Result<Vec<ClassSig
     requires { IsOfSomeForm t.now }
     ensures { IfOk result (λ all. AreClassSignatures (dimension_of t.now) t.now all.items) }
 {
-    let mut all = Vec::new(alloc);
+    let mut all = match Vec::with_capacity(alloc, t.len()) {
+        Ok(all) => all,
+        Err(_) => return Err(Memory),
+    };
     for class in 0..t.len() {
         let numbers = signature(t, class);
         match all.push(ClassSignature { numbers }) {

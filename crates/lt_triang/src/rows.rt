@@ -42,7 +42,10 @@ impl Row {
     fn try_copy(&self, alloc: Global) -> Result<Row, Memory>
         ensures { IfOk result (λ r. r ≡ self.now) }
     {
-        let mut facets = Vec::new(alloc);
+        let mut facets = match Vec::with_capacity(alloc, self.facets.len()) {
+            Ok(facets) => facets,
+            Err(_) => return Err(Memory),
+        };
         for across in &self.facets {
             match facets.push(across.copy()) {
                 Ok(()) => {}
@@ -68,7 +71,10 @@ fn row_of(
     ensures open { (class facet : ℕ) → result ≡ Err (OpenFacet class facet) → (class ≡ n) × IsFirstOpenOf d classes.now (get_or classes.now n []) facet }
 {
     let columns = class_at(classes, n).columns();
-    let mut facets = Vec::new(alloc);
+    let mut facets = match Vec::with_capacity(alloc, d + 1) {
+        Ok(facets) => facets,
+        Err(_) => return Err(TriangError::Memory),
+    };
     for i in 0..d + 1 {
         match first_across(d, classes, index, n, &columns, i) {
             Some(found) => match facets.push(found) {

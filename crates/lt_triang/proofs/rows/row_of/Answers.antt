@@ -21,7 +21,7 @@ returns-in-None-clause-open c = λ class facet e.
 
 pub loop-i-preserved : goal.loop-i-preserved
 loop-i-preserved c =
-    rw c.in-Ok.ensures.items (record {
+    rw c.in-Ok-push.ensures.items (record {
       count = omega (arith, length_push c.loop-i.facets.items c.in-Some.found, c.loop-i.invariant.count);
       each = row_pushed (IsKept c.args.d c.args.classes.now (get_or c.args.classes.now c.args.n [])) c.loop-i.facets.items c.loop-i.i c.in-Some.found c.loop-i.invariant.count c.loop-i.invariant.each c.in-Some.ensures;
     })
