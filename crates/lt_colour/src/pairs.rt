@@ -121,14 +121,12 @@ fn others(numbers: &[i128], i: usize) -> ArrayVec<i64, 7>
     all
 }
 
-/// The same numbers in ascending order.
-fn sorted(numbers: ArrayVec<i64, 7>) -> ArrayVec<i64, 7>
-    ensures permutation { IsPermutation numbers.items result.items }
-    ensures ascending { IsSorted int_cmp result.items }
+/// Puts the numbers into ascending order.
+fn sort(numbers: &mut [i64])
+    ensures permutation { IsPermutation numbers.old numbers.new }
+    ensures ascending { IsSorted int_cmp numbers.new }
 {
-    let mut all = numbers;
-    all.as_mut_slice().sort_unstable();
-    all
+    numbers.sort_unstable();
 }
 
 /// The signature that the numbers of an expression make.
@@ -138,10 +136,12 @@ fn signature_from(scale: i128, coefficients: &[i128], facet: usize) -> ShortSign
     requires below { AreBelow (2 ^ 59) (scale ∷ coefficients.now) }
     ensures { AreNumbersFrom facet scale coefficients.now result }
 {
+    let mut rest = others(coefficients, facet);
+    sort(rest.as_mut_slice());
     let mut numbers: ArrayVec<i64, 8> = ArrayVec::new();
     numbers.push(word(scale));
     numbers.push(word(coefficients[facet]));
-    for number in sorted(others(coefficients, facet)).as_slice() {
+    for number in rest.as_slice() {
         numbers.push(*number);
     }
     ShortSignature { numbers }
