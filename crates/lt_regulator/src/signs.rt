@@ -55,8 +55,8 @@ fn same_sign(a: i128, b: i128) -> bool
     (a > 0) == (b > 0) && (a < 0) == (b < 0)
 }
 
-/// Whether the numbers of the excess have the signs of the normal's. It stops at the first that hasn't, and most normals that aren't
-/// multiples of the excess differ from it at one of the first numbers.
+/// Whether the numbers of the excess have the signs of the normal's, where the normal isn't 0. It stops at the first that hasn't, and most
+/// normals that aren't multiples of the excess differ from it at one of the first numbers.
 pub fn signs_agree(d: usize, s: &[Point], w: &Point, e: &Expression, normal: &[i128]) -> bool
     requires high { d ≤ 6 }
     requires count { length s.now ≡ suc d }
@@ -70,8 +70,10 @@ pub fn signs_agree(d: usize, s: &[Point], w: &Point, e: &Expression, normal: &[i
     let mut k = 0;
     for i in 0..d {
         for j in i..d {
-            if !same_sign(excess_at(s, w, e, i, j), normal[k]) {
-                return false;
+            if normal[k] != 0 {
+                if !same_sign(excess_at(s, w, e, i, j), normal[k]) {
+                    return false;
+                }
             }
             k += 1;
         }
