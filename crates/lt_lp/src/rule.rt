@@ -8,7 +8,7 @@ ghost use Rattle.lt_tableau.specs.System.{system_of};
 ghost use Rattle.lt_tableau.specs.Errors.{AreOfDimension};
 ghost use Rattle.lt_lp.specs.Rule.{objective_of, gain_of, number_of, IsBefore, IsLeaving, IsReady, IsStopped, IsEarlier};
 
-use crate::sums::{first_unit, gain, objective, unit_sums};
+use crate::sums::{are_tiny, first_unit, gains, objective, unit_sums};
 use lt_lattice::Normal;
 use lt_tableau::Tableau;
 use std::alloc::{AllocError, Global};
@@ -23,8 +23,9 @@ fn entering(t: &Tableau) -> Option<usize>
         return None;
     }
     let sums = unit_sums(t);
+    let tiny = are_tiny(&sums);
     for column in 0..first_unit(t) {
-        if gain(t, &sums, column) > 0 {
+        if gains(t, &sums, tiny, column) {
             return Some(column);
         }
     }
