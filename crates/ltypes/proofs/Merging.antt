@@ -1,5 +1,5 @@
 -- Why the parts of an input were not merged.
-use Rattle.std.proofs.Common.{◌≡◌, ℕ, ◌-◌, List, inl, inr, length, take, drop, arith}
+use Rattle.std.proofs.Common.{◌≡◌, ℕ, ◌-◌, List, inr, length, take, drop, arith}
 use Rattle.std.proofs.lemmas.List.{take_all, length-drop}
 use Rattle.lt_model.specs.Atlases.{Atlas}
 use Rattle.lt_read.specs.Reading.{IsRead}

@@ -1,5 +1,5 @@
 -- What the command on a section of a cone writes, and when each of its answers comes.
-use Rattle.std.specs.Prelude.{◌≡◌, ◌⊎◌, ℕ, ℤ, pos, ◌+◌, ◌<◌, ◌≤◌, List, [], ◌∷◌, ◌++◌, codes, length, get_or}
+use Rattle.std.specs.Prelude.{◌≡◌, ℕ, ℤ, pos, ◌+◌, ◌<◌, List, [], ◌∷◌, ◌++◌, codes, length, get_or}
 use Rattle.std.specs.List.{flat_map}
 use Rattle.lt_lines.specs.Lines.{line}
 use Rattle.lt_model.specs.Atlases.{Classes}

@@ -97,7 +97,13 @@ fn carry_out<R: Threads + Wait + Sync, S: Source, K: Sink, E: Sink, G: Gate>(
         Command::Cover { steps, q } => cover_command(alloc, &q, steps, out, err),
         Command::Relevant { d, entry } => relevant_command(alloc, d, entry, source, out, err),
         Command::Shortest { steps, q } => shortest_command(alloc, &q, steps, out, err),
-        Command::Section { steps, forms } => section_command(alloc, forms.as_slice(), steps, out, err),
+        Command::Section { steps, forms } => section_command(
+            alloc,
+            forms.as_slice(),
+            steps,
+            out,
+            err,
+        ),
         Command::Merge { d } => merge_command(alloc, d, source, out, err),
     }
 }

@@ -20,9 +20,9 @@ mod vectors;
 pub use command::{ltypes, outputs_are_exact, principal_command};
 pub use drill::drill_command;
 pub use forms::{cover_command, locate_command, shortest_command};
-pub use merges::merge_command;
 use lt_crew::OpenGate;
 use lt_io::{LineSink, StdSink, StdSource};
+pub use merges::merge_command;
 pub use reading::{check_command, summary_command};
 pub use run::{narrow_runs_finish, run_alone_command, run_command, runs_are_resumed};
 pub use sections::section_command;
@@ -76,6 +76,8 @@ fn main(rt: HostRuntime) -> ExitCode {
 
 #[cfg(test)]
 mod crew_tests;
+#[cfg(test)]
+mod form_tests;
 #[cfg(test)]
 mod read_tests;
 #[cfg(test)]

@@ -29,7 +29,7 @@ const LINES: [&str; 17] = [
 ];
 
 /// An atlas of dimension 2 with two equivalent entries; all else is right.
-const TWINS: &str =
+pub const TWINS: &str =
     "ltypes 1\ndimension 2\nentries 2\nentry 0 start\nsimplices 2\n0 0 0 1 1 1\n0 0 1 0 1 1\n\
     regulators 3\nfacet 0 -1 0 wall 1 0 1\nfacet 0 1 2 wall 2 -2 1\nfacet 2 1 0 wall 1 -2 2\nform 1 -1 1\n\
     marks 3\ncross 1 1 0 0 1\nopen\nopen\nentry 1 from 0 0\nsimplices 2\n0 0 0 1 1 0\n0 0 1 -1 1 0\n\
@@ -54,14 +54,14 @@ const OTHER_CLASSES: &str =
 
 /// How the program ends, and what out and err then hold.
 #[derive(Drop)]
-struct Said {
-    code: u8,
-    out: MemorySink,
-    err: MemorySink,
+pub struct Said {
+    pub code: u8,
+    pub out: MemorySink,
+    pub err: MemorySink,
 }
 
 impl Said {
-    fn is(&self, code: u8, out: &[u8], err: &str) -> bool {
+    pub fn is(&self, code: u8, out: &[u8], err: &str) -> bool {
         self.code == code && self.out.bytes() == out && self.err.bytes() == err.as_bytes()
     }
 }
@@ -87,7 +87,7 @@ fn outcome<R: Threads + Wait + Sync, S: Source>(
 }
 
 /// What the program says on words and a text.
-fn told<R: Threads + Wait + Sync>(
+pub fn told<R: Threads + Wait + Sync>(
     rt: &R,
     alloc: Global,
     words: &[&str],
@@ -97,7 +97,7 @@ fn told<R: Threads + Wait + Sync>(
 }
 
 /// The atlas of dimension 2 with other lines in place of those with these numbers, counted from 1.
-fn changed(alloc: Global, changes: &[(usize, &str)]) -> Result<Vec<u8>, AllocError> {
+pub fn changed(alloc: Global, changes: &[(usize, &str)]) -> Result<Vec<u8>, AllocError> {
     let mut text = Vec::new(alloc);
     for i in 0..LINES.len() {
         let mut line = LINES[i];

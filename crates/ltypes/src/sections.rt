@@ -56,7 +56,12 @@ fn write_form<K: Sink>(out: &mut K, form: &Form) -> Result<(), Failed>
 }
 
 /// Writes the row of a live facet.
-fn write_live<K: Sink>(out: &mut K, normal: &Numbers, at: &Numbers, form: &Form) -> Result<(), Failed>
+fn write_live<K: Sink>(
+    out: &mut K,
+    normal: &Numbers,
+    at: &Numbers,
+    form: &Form,
+) -> Result<(), Failed>
     ensures bytes { Wrote (K.held out.old) (K.held out.new) result (live_line normal.now.items at.now.items form.now) }
     ensures cause { HasCause (K.faults out.old) (K.faults out.new) result }
 {
@@ -66,7 +71,13 @@ fn write_live<K: Sink>(out: &mut K, normal: &Numbers, at: &Numbers, form: &Form)
 }
 
 /// Writes the row of a dead facet.
-fn write_dead<K: Sink>(out: &mut K, normal: &Numbers, at: &Numbers, form: &Form, x: &Point) -> Result<(), Failed>
+fn write_dead<K: Sink>(
+    out: &mut K,
+    normal: &Numbers,
+    at: &Numbers,
+    form: &Form,
+    x: &Point,
+) -> Result<(), Failed>
     ensures bytes { Wrote (K.held out.old) (K.held out.new) result (dead_line normal.now.items at.now.items form.now x.now) }
     ensures cause { HasCause (K.faults out.old) (K.faults out.new) result }
 {
@@ -77,7 +88,12 @@ fn write_dead<K: Sink>(out: &mut K, normal: &Numbers, at: &Numbers, form: &Form,
 }
 
 /// Writes the row of a normal that is no facet.
-fn write_redundant<K: Sink>(out: &mut K, normal: &Numbers, scale: &i128, terms: &Terms) -> Result<(), Failed>
+fn write_redundant<K: Sink>(
+    out: &mut K,
+    normal: &Numbers,
+    scale: &i128,
+    terms: &Terms,
+) -> Result<(), Failed>
     ensures bytes { Wrote (K.held out.old) (K.held out.new) result (redundant_line normal.now.items scale.now terms.now.items) }
     ensures cause { HasCause (K.faults out.old) (K.faults out.new) result }
 {
@@ -93,7 +109,12 @@ fn write_row<K: Sink>(out: &mut K, row: &SectionRow) -> Result<(), Failed>
     match &row.verdict {
         SectionVerdict::Live { at, form } => write_live(out, &row.normal, at, form),
         SectionVerdict::Dead { at, form, x } => write_dead(out, &row.normal, at, form, x),
-        SectionVerdict::Combination { scale, terms } => write_redundant(out, &row.normal, scale, terms),
+        SectionVerdict::Combination { scale, terms } => write_redundant(
+            out,
+            &row.normal,
+            scale,
+            terms,
+        ),
     }
 }
 

@@ -1,15 +1,9 @@
-use Rattle.std.proofs.Common.{pos, [], ◌∷◌, ◌++◌, length}
+use Rattle.std.proofs.Common.{◌++◌}
 use Rattle.std.specs.Prelude.{codes}
-use Rattle.std.specs.Fmt.{decimal}
-use Rattle.std.specs.List.{flat_map}
 use Rattle.std.proofs.lemmas.Result.{err_from_is_err_and}
 use Rattle.lt_io.proofs.Compose.{wrote_front, wrote_then, front_of_more, appended_then, appended_then_front}
 use Rattle.lt_lines.specs.Lines.{line}
-use Rattle.lt_text.specs.Texts.{start, combination_part}
-use Rattle.lt_core.specs.Marks.{mark_of}
-use Rattle.ltypes.specs.Texts.{named, refusal_text, mark_part}
-use Rattle.ltypes.specs.Forms.{crossings_line}
-use Rattle.ltypes.specs.Sections.{section_row_line, facets_line, facets, dead}
+use Rattle.lt_text.specs.Texts.{start}
 use Rattle.ltypes.proofs.sections.write_live.Goals as goal
 
 pub returns-in_err-start_with-clause-bytes : goal.returns-in_err-start_with-clause-bytes
