@@ -13,8 +13,10 @@ use crate::words::{Command, WordsError};
 /// The dimension of a command that has nothing else behind its word.
 pub fn read_alone(words: &[&str]) -> Result<u8, WordsError>
     ensures dimension { IfOk result (λ d. IsDimension d) }
-    ensures words { IfOk result (λ d. (w : List ℕ) → HasFront (texts words.now) (w ∷ []) → texts words.now ≡ w ∷ decimal d ∷ []) }
-    ensures fault { IfErr result (λ e. (k : Kind) → IsAlone k → HasFront (texts words.now) (kind_word k ∷ []) → FaultAt (texts words.now) (place_of e)) }
+    ensures words { IfOk result (λ d. (w : List ℕ) → HasFront (texts words.now) (w ∷ []) → texts words.now ≡ w ∷
+        decimal d ∷ []) }
+    ensures fault { IfErr result (λ e. (k : Kind) → IsAlone k → HasFront (texts words.now) (kind_word k ∷ []) →
+        FaultAt (texts words.now) (place_of e)) }
 {
     let d = dimension_at(words)?;
     end_at(words, 2)?;

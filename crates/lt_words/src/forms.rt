@@ -51,8 +51,10 @@ fn form_at(words: &[&str], place: u32, d: u8, most: u64) -> Result<Form, WordsEr
 pub fn read_form(words: &[&str]) -> Result<(u32, Form), WordsError>
     ensures crossings { IfOk result (λ p. p.0 ≤ most_crossings) }
     ensures within { IfOk result (λ p. All (IsWithin most_of_form) p.1) }
-    ensures words { IfOk result (λ p. (w : List ℕ) → HasFront (texts words.now) (w ∷ []) → SpellsForm w p.0 p.1 (texts words.now)) }
-    ensures fault { IfErr result (λ e. (k : Kind) → IsOnForm k → HasFront (texts words.now) (kind_word k ∷ []) → FaultAt (texts words.now) (place_of e)) }
+    ensures words { IfOk result (λ p. (w : List ℕ) → HasFront (texts words.now) (w ∷ []) → SpellsForm w p.0 p.1
+        (texts words.now)) }
+    ensures fault { IfErr result (λ e. (k : Kind) → IsOnForm k → HasFront (texts words.now) (kind_word k ∷ []) →
+        FaultAt (texts words.now) (place_of e)) }
 {
     let d = dimension_at(words)?;
     let steps = number_at(words, 2, 0, MOST_CROSSINGS)?;
@@ -69,8 +71,10 @@ fn forms_at(words: &[&str], place: u32, d: u8, count: u32) -> Result<ArrayVec<Fo
     ensures count { IfOk result (λ fs. length fs.items ≡ count) }
     ensures numbers { IfOk result (λ fs. All (λ q. length q ≡ numbers_of_form d) fs.items) }
     ensures within { IfOk result (λ fs. All (All (IsWithin most_in_section)) fs.items) }
-    ensures found { IfOk result (λ fs. HasWords (texts words.now) place (map signed_decimal (flat_map (λ q. q) fs.items))) }
-    ensures cut { IfErr result (λ e. IsCut (texts words.now) place (count * numbers_of_form d) most_in_section (place_of e)) }
+    ensures found { IfOk result (λ fs. HasWords (texts words.now) place
+        (map signed_decimal (flat_map (λ q. q) fs.items))) }
+    ensures cut { IfErr result (λ e. IsCut (texts words.now) place (count * numbers_of_form d) most_in_section
+        (place_of e)) }
 {
     let each = numbers_of(d);
     let mut forms: ArrayVec<Form, 21> = ArrayVec::new();

@@ -59,7 +59,8 @@ pub fn integer_at(words: &[&str], place: u32, most: u64) -> Result<i128, WordsEr
     requires { most ≤ 2 ^ 40 }
     ensures found { IfOk result (λ z. (nat_abs z ≤ most) × HasWord (texts words.now) place (signed_decimal z)) }
     ensures place { IfErr result (λ e. e ≡ WordsError.Fault place) }
-    ensures none { IfErr result (λ _. (z : ℤ) → nat_abs z ≤ most → HasWord (texts words.now) place (signed_decimal z) → ⊥) }
+    ensures none { IfErr result (λ _. (z : ℤ) → nat_abs z ≤ most → HasWord (texts words.now) place (signed_decimal z)
+        → ⊥) }
 {
     match words.get(place as usize) {
         None => Err(WordsError::Fault { place }),

@@ -31,7 +31,8 @@ use std::thread::Threads;
 /// Writes the principal form and the principal triangulation.
 fn write_principal<K: Sink>(alloc: Global, d: u8, out: &mut K) -> Cause
     requires { IsDimension d }
-    ensures answer { Answers (IsPrincipalText d) (change (K.held out.old) (K.held out.new) (K.faults out.old) (K.faults out.new)) result }
+    ensures answer { Answers (IsPrincipalText d)
+        (change (K.held out.old) (K.held out.new) (K.faults out.old) (K.faults out.new)) result }
 {
     let form = principal_form(d);
     match principal(alloc, d) {
@@ -50,9 +51,11 @@ fn write_principal<K: Sink>(alloc: Global, d: u8, out: &mut K) -> Cause
 pub fn principal_command<K: Sink, E: Sink>(alloc: Global, d: u8, out: &mut K, err: &mut E) -> Status
     requires { IsDimension d }
     ensures code { result.code ≡ code_of result.cause }
-    ensures answer { Answers (IsPrincipalText d) (change (K.held out.old) (K.held out.new) (K.faults out.old) (K.faults out.new)) result.cause }
+    ensures answer { Answers (IsPrincipalText d)
+        (change (K.held out.old) (K.held out.new) (K.faults out.old) (K.faults out.new)) result.cause }
     ensures complete { NotRisen (K.faults out.old) (K.faults out.new) → IsDoneOrMemory result.cause }
-    ensures line { Reports (change (E.held err.old) (E.held err.new) (E.faults err.old) (E.faults err.new)) (err_text result.cause) }
+    ensures line { Reports (change (E.held err.old) (E.held err.new) (E.faults err.old) (E.faults err.new))
+        (err_text result.cause) }
 {
     write_principal(alloc, d, out).report(err)
 }
@@ -74,7 +77,8 @@ fn carry_out<R: Threads + Wait + Sync, S: Source, K: Sink, E: Sink, G: Gate>(
         (change (K.held out.old) (K.held out.new) (K.faults out.old) (K.faults out.new)) result.cause }
     ensures unread { reads command ≡ false → S.left source.new ≡ S.left source.old }
     ensures no_fault { reads command ≡ false → S.faults source.new ≡ S.faults source.old }
-    ensures line { Reports (change (E.held err.old) (E.held err.new) (E.faults err.old) (E.faults err.new)) (err_text result.cause) }
+    ensures line { Reports (change (E.held err.old) (E.held err.new) (E.faults err.old) (E.faults err.new))
+        (err_text result.cause) }
 {
     match command {
         Command::Principal { d } => principal_command(alloc, d, out, err),
@@ -112,7 +116,8 @@ fn carry_out<R: Threads + Wait + Sync, S: Source, K: Sink, E: Sink, G: Gate>(
 fn refuse<E: Sink>(error: WordsError, err: &mut E) -> Status
     ensures code { result.code ≡ code_of result.cause }
     ensures cause { result.cause ≡ Words (place_of error) }
-    ensures line { Reports (change (E.held err.old) (E.held err.new) (E.faults err.old) (E.faults err.new)) (err_text result.cause) }
+    ensures line { Reports (change (E.held err.old) (E.held err.new) (E.faults err.old) (E.faults err.new))
+        (err_text result.cause) }
 {
     match error {
         WordsError::Fault { place } => Cause::Words { place }.report(err),
@@ -143,7 +148,8 @@ pub fn ltypes<R: Threads + Wait + Sync, S: Source, K: Sink, E: Sink, G: Gate>(
         NotRisen (K.faults out.old) (K.faults out.new) → EndsWords (texts words.now)
         (change (S.left source.old) (S.left source.new) (S.faults source.old) (S.faults source.new))
         (change (K.held out.old) (K.held out.new) (K.faults out.old) (K.faults out.new)) result.cause }
-    ensures line { Reports (change (E.held err.old) (E.held err.new) (E.faults err.old) (E.faults err.new)) (err_text result.cause) }
+    ensures line { Reports (change (E.held err.old) (E.held err.new) (E.faults err.old) (E.faults err.new))
+        (err_text result.cause) }
 {
     match read_words(words) {
         Ok(command) => carry_out(rt, alloc, command, source, out, err, gate),

@@ -167,7 +167,8 @@ fn write_lines<K: Sink>(
     findings: &Findings,
 ) -> Result<(), Failed>
     requires { findings.now.matched ≡ prelude.length findings.now.start.entries }
-    ensures bytes { Wrote (K.held out.old) (K.held out.new) result (drill_text d seed turns findings.now.start findings.now.end) }
+    ensures bytes { Wrote (K.held out.old) (K.held out.new) result
+        (drill_text d seed turns findings.now.start findings.now.end) }
     ensures cause { HasCause (K.faults out.old) (K.faults out.new) result }
 {
     write_line(out, b"drill", &[d as i128, seed as i128, turns as i128])?;
@@ -179,7 +180,8 @@ fn write_lines<K: Sink>(
 fn write_drill<K: Sink>(alloc: Global, d: u8, seed: u64, turns: u64, out: &mut K) -> Cause
     requires dimension { IsDimension d }
     requires turns { turns ≤ most_turns d }
-    ensures { AnswersDrill d seed turns (change (K.held out.old) (K.held out.new) (K.faults out.old) (K.faults out.new)) result }
+    ensures { AnswersDrill d seed turns
+        (change (K.held out.old) (K.held out.new) (K.faults out.old) (K.faults out.new)) result }
 {
     match drill(alloc, d, seed, turns) {
         Ok(found) => match write_lines(out, d, seed, turns, &found) {
@@ -209,9 +211,11 @@ pub fn drill_command<K: Sink, E: Sink>(
     requires dimension { IsDimension d }
     requires turns { length ≤ most_turns d }
     ensures code { result.code ≡ code_of result.cause }
-    ensures answer { AnswersDrill d seed length (change (K.held out.old) (K.held out.new) (K.faults out.old) (K.faults out.new)) result.cause }
+    ensures answer { AnswersDrill d seed length
+        (change (K.held out.old) (K.held out.new) (K.faults out.old) (K.faults out.new)) result.cause }
     ensures complete { NotRisen (K.faults out.old) (K.faults out.new) → EndsDrill d seed length result.cause }
-    ensures line { Reports (change (E.held err.old) (E.held err.new) (E.faults err.old) (E.faults err.new)) (err_text result.cause) }
+    ensures line { Reports (change (E.held err.old) (E.held err.new) (E.faults err.old) (E.faults err.new))
+        (err_text result.cause) }
 {
     write_drill(alloc, d, seed, length, out).report(err)
 }

@@ -54,7 +54,8 @@ pub fn located(alloc: Global, q: &Form, steps: u32) -> Result<Located, Cause>
 
 /// Writes the number of crossings and the triangulation.
 fn write_located<K: Sink>(out: &mut K, located: &Located) -> Result<(), Failed>
-    ensures bytes { Wrote (K.held out.old) (K.held out.new) result (locate_text located.now.crossed located.now.triangulation) }
+    ensures bytes { Wrote (K.held out.old) (K.held out.new) result
+        (locate_text located.now.crossed located.now.triangulation) }
     ensures cause { HasCause (K.faults out.old) (K.faults out.new) result }
 {
     write_count(out, b"located after", located.crossed as u64)?;
@@ -64,7 +65,8 @@ fn write_located<K: Sink>(out: &mut K, located: &Located) -> Result<(), Failed>
 /// Walks to the triangulation of a form, and writes it.
 fn write_locate<K: Sink>(alloc: Global, q: &Form, steps: u32, out: &mut K) -> Cause
     requires { All (IsWithin most_of_form) q.now }
-    ensures { AnswersLocate steps q.now (change (K.held out.old) (K.held out.new) (K.faults out.old) (K.faults out.new)) result }
+    ensures { AnswersLocate steps q.now
+        (change (K.held out.old) (K.held out.new) (K.faults out.old) (K.faults out.new)) result }
 {
     match located(alloc, q, steps) {
         Err(cause) => cause,
@@ -89,9 +91,11 @@ pub fn locate_command<K: Sink, E: Sink>(
 ) -> Status
     requires { IsWalkGiven steps q.now }
     ensures code { result.code ≡ code_of result.cause }
-    ensures answer { AnswersLocate steps q.now (change (K.held out.old) (K.held out.new) (K.faults out.old) (K.faults out.new)) result.cause }
+    ensures answer { AnswersLocate steps q.now
+        (change (K.held out.old) (K.held out.new) (K.faults out.old) (K.faults out.new)) result.cause }
     ensures complete { NotRisen (K.faults out.old) (K.faults out.new) → EndsForm refuses_none steps q.now result.cause }
-    ensures line { Reports (change (E.held err.old) (E.held err.new) (E.faults err.old) (E.faults err.new)) (err_text result.cause) }
+    ensures line { Reports (change (E.held err.old) (E.held err.new) (E.faults err.old) (E.faults err.new))
+        (err_text result.cause) }
 {
     write_locate(alloc, q, steps, out).report(err)
 }
@@ -101,9 +105,12 @@ fn covered(alloc: Global, q: &Form, located: &Located) -> Result<Cover, Cause>
     requires within { All (IsWithin most_of_form) q.now }
     requires delaunay { IsDelaunay (dimension_of located.now.triangulation) q.now located.now.triangulation }
     ensures lowest { IfOk result (λ c. IsReduced c.radius) }
-    ensures short { IfOk result (λ _. AreShort (dimension_of located.now.triangulation) q.now located.now.triangulation) }
-    ensures cover { IfOk result (λ c. IsCover (dimension_of located.now.triangulation) q.now located.now.triangulation c.radius c.class) }
-    ensures why { IfErr result (λ c. (c ≡ Memory) ⊎ IsTooLong q.now (dimension_of located.now.triangulation) located.now.triangulation c) }
+    ensures short { IfOk result (λ _. AreShort (dimension_of located.now.triangulation) q.now
+        located.now.triangulation) }
+    ensures cover { IfOk result (λ c. IsCover (dimension_of located.now.triangulation) q.now located.now.triangulation
+        c.radius c.class) }
+    ensures why { IfErr result (λ c. (c ≡ Memory) ⊎ IsTooLong q.now (dimension_of located.now.triangulation)
+        located.now.triangulation c) }
 {
     match cover(alloc, q, &located.triangulation) {
         Ok(cover) => Ok(cover),
@@ -150,7 +157,8 @@ fn write_class<K: Sink>(out: &mut K, class: &Class) -> Result<(), Failed>
 /// Writes the number of crossings, the squared covering radius, and the member that has it.
 fn write_covered<K: Sink>(out: &mut K, located: &Located, cover: &Cover) -> Result<(), Failed>
     requires { cover.now.class < prelude.length located.now.triangulation }
-    ensures bytes { Wrote (K.held out.old) (K.held out.new) result (cover_text located.now.crossed cover.now.radius (get_or located.now.triangulation cover.now.class [])) }
+    ensures bytes { Wrote (K.held out.old) (K.held out.new) result
+        (cover_text located.now.crossed cover.now.radius (get_or located.now.triangulation cover.now.class [])) }
     ensures cause { HasCause (K.faults out.old) (K.faults out.new) result }
 {
     write_count(out, b"located after", located.crossed as u64)?;
@@ -161,7 +169,8 @@ fn write_covered<K: Sink>(out: &mut K, located: &Located, cover: &Cover) -> Resu
 /// Walks to the triangulation of a form, and writes its covering radius.
 fn write_cover<K: Sink>(alloc: Global, q: &Form, steps: u32, out: &mut K) -> Cause
     requires { All (IsWithin most_of_form) q.now }
-    ensures { AnswersCover steps q.now (change (K.held out.old) (K.held out.new) (K.faults out.old) (K.faults out.new)) result }
+    ensures { AnswersCover steps q.now
+        (change (K.held out.old) (K.held out.new) (K.faults out.old) (K.faults out.new)) result }
 {
     let located = match located(alloc, q, steps) {
         Ok(located) => located,
@@ -190,9 +199,12 @@ pub fn cover_command<K: Sink, E: Sink>(
 ) -> Status
     requires { IsWalkGiven steps q.now }
     ensures code { result.code ≡ code_of result.cause }
-    ensures answer { AnswersCover steps q.now (change (K.held out.old) (K.held out.new) (K.faults out.old) (K.faults out.new)) result.cause }
-    ensures complete { NotRisen (K.faults out.old) (K.faults out.new) → EndsForm (IsTooLong q.now) steps q.now result.cause }
-    ensures line { Reports (change (E.held err.old) (E.held err.new) (E.faults err.old) (E.faults err.new)) (err_text result.cause) }
+    ensures answer { AnswersCover steps q.now
+        (change (K.held out.old) (K.held out.new) (K.faults out.old) (K.faults out.new)) result.cause }
+    ensures complete { NotRisen (K.faults out.old) (K.faults out.new) → EndsForm (IsTooLong q.now) steps q.now
+        result.cause }
+    ensures line { Reports (change (E.held err.old) (E.held err.new) (E.faults err.old) (E.faults err.new))
+        (err_text result.cause) }
 {
     write_cover(alloc, q, steps, out).report(err)
 }
@@ -219,7 +231,8 @@ pub fn write_vectors<K: Sink>(out: &mut K, vectors: &[Point]) -> Result<(), Fail
 
 /// Writes the least value and the vectors that have it.
 fn write_least<K: Sink>(out: &mut K, shortest: &Shortest) -> Result<(), Failed>
-    ensures bytes { Wrote (K.held out.old) (K.held out.new) result (shortest_text shortest.now.least shortest.now.vectors.items) }
+    ensures bytes { Wrote (K.held out.old) (K.held out.new) result
+        (shortest_text shortest.now.least shortest.now.vectors.items) }
     ensures cause { HasCause (K.faults out.old) (K.faults out.new) result }
 {
     write_named_number(out, b"least", &shortest.least)?;
@@ -229,7 +242,8 @@ fn write_least<K: Sink>(out: &mut K, shortest: &Shortest) -> Result<(), Failed>
 /// Walks to the triangulation of a form, and writes its shortest vectors.
 fn write_shortest<K: Sink>(alloc: Global, q: &Form, steps: u32, out: &mut K) -> Cause
     requires { All (IsWithin most_of_form) q.now }
-    ensures { AnswersShortest steps q.now (change (K.held out.old) (K.held out.new) (K.faults out.old) (K.faults out.new)) result }
+    ensures { AnswersShortest steps q.now
+        (change (K.held out.old) (K.held out.new) (K.faults out.old) (K.faults out.new)) result }
 {
     let located = match located(alloc, q, steps) {
         Ok(located) => located,
@@ -257,9 +271,11 @@ pub fn shortest_command<K: Sink, E: Sink>(
 ) -> Status
     requires { IsWalkGiven steps q.now }
     ensures code { result.code ≡ code_of result.cause }
-    ensures answer { AnswersShortest steps q.now (change (K.held out.old) (K.held out.new) (K.faults out.old) (K.faults out.new)) result.cause }
+    ensures answer { AnswersShortest steps q.now
+        (change (K.held out.old) (K.held out.new) (K.faults out.old) (K.faults out.new)) result.cause }
     ensures complete { NotRisen (K.faults out.old) (K.faults out.new) → EndsForm refuses_none steps q.now result.cause }
-    ensures line { Reports (change (E.held err.old) (E.held err.new) (E.faults err.old) (E.faults err.new)) (err_text result.cause) }
+    ensures line { Reports (change (E.held err.old) (E.held err.new) (E.faults err.old) (E.faults err.new))
+        (err_text result.cause) }
 {
     write_shortest(alloc, q, steps, out).report(err)
 }

@@ -47,7 +47,8 @@ fn division_of(bytes: &[u8]) -> usize
 /// The whole input.
 fn read_input<S: Source>(alloc: Global, d: u8, source: &mut S) -> Result<Vec<u8>, Cause>
     requires { IsDimension d }
-    ensures read { IfOk result (λ v. ReadsAll (S.left source.old) (S.left source.new) v.items (2 * limits.input_limit d)) }
+    ensures read { IfOk result (λ v. ReadsAll (S.left source.old) (S.left source.new) v.items
+        (2 * limits.input_limit d)) }
     ensures why { IfErr result (HasNoInput d
         (change (S.left source.old) (S.left source.new) (S.faults source.old) (S.faults source.new))) }
 {
@@ -148,7 +149,8 @@ pub fn merge_command<S: Source, K: Sink, E: Sink>(
     ensures complete { NotRisen (S.faults source.old) (S.faults source.new) →
         NotRisen (K.faults out.old) (K.faults out.new) → EndsMerge d
         (change (S.left source.old) (S.left source.new) (S.faults source.old) (S.faults source.new)) result.cause }
-    ensures line { Reports (change (E.held err.old) (E.held err.new) (E.faults err.old) (E.faults err.new)) (err_text result.cause) }
+    ensures line { Reports (change (E.held err.old) (E.held err.new) (E.faults err.old) (E.faults err.new))
+        (err_text result.cause) }
 {
     write_merge(alloc, d, source, out).report(err)
 }

@@ -53,7 +53,8 @@ pub fn check_command<S: Source, K: Sink, E: Sink>(
     ensures complete { NotRisen (S.faults source.old) (S.faults source.new) →
         NotRisen (K.faults out.old) (K.faults out.new) → EndsOn d true
         (change (S.left source.old) (S.left source.new) (S.faults source.old) (S.faults source.new)) result.cause }
-    ensures line { Reports (change (E.held err.old) (E.held err.new) (E.faults err.old) (E.faults err.new)) (err_text result.cause) }
+    ensures line { Reports (change (E.held err.old) (E.held err.new) (E.faults err.old) (E.faults err.new))
+        (err_text result.cause) }
 {
     write_check(alloc, d, source, out).report(err)
 }
@@ -109,7 +110,8 @@ pub fn summary_command<S: Source, K: Sink, E: Sink>(
         (change (S.left source.old) (S.left source.new) (S.faults source.old) (S.faults source.new)) result.cause }
     ensures unread { resume ≡ false → S.left source.new ≡ S.left source.old }
     ensures no_fault { resume ≡ false → S.faults source.new ≡ S.faults source.old }
-    ensures line { Reports (change (E.held err.old) (E.held err.new) (E.faults err.old) (E.faults err.new)) (err_text result.cause) }
+    ensures line { Reports (change (E.held err.old) (E.held err.new) (E.faults err.old) (E.faults err.new))
+        (err_text result.cause) }
 {
     write_counts(alloc, d, resume, source, out).report(err)
 }

@@ -24,8 +24,10 @@ use std::thread::Threads;
 /// How a run ends whose text was written.
 fn cause_of(ended: &Ended) -> Cause
     ensures memory { ended.now.memory ≡ true → result ≡ Memory }
-    ensures finished { ended.now.memory ≡ false → undecided ended.now.atlas.marks + stuck ended.now.atlas.marks ≡ 0 → result ≡ Finished }
-    ensures unfinished { ended.now.memory ≡ false → 0 < undecided ended.now.atlas.marks + stuck ended.now.atlas.marks → result ≡ Unfinished (stuck ended.now.atlas.marks) (undecided ended.now.atlas.marks) }
+    ensures finished { ended.now.memory ≡ false → undecided ended.now.atlas.marks + stuck ended.now.atlas.marks ≡ 0 →
+        result ≡ Finished }
+    ensures unfinished { ended.now.memory ≡ false → 0 < undecided ended.now.atlas.marks + stuck ended.now.atlas.marks
+        → result ≡ Unfinished (stuck ended.now.atlas.marks) (undecided ended.now.atlas.marks) }
 {
     if ended.memory {
         return Cause::Memory;
@@ -105,7 +107,8 @@ pub fn run_alone_command<S: Source, K: Sink, E: Sink>(
         (change (K.held out.old) (K.held out.new) (K.faults out.old) (K.faults out.new)) result.cause }
     ensures unread { resume ≡ false → S.left source.new ≡ S.left source.old }
     ensures no_fault { resume ≡ false → S.faults source.new ≡ S.faults source.old }
-    ensures line { Reports (change (E.held err.old) (E.held err.new) (E.faults err.old) (E.faults err.new)) (err_text result.cause) }
+    ensures line { Reports (change (E.held err.old) (E.held err.new) (E.faults err.old) (E.faults err.new))
+        (err_text result.cause) }
 {
     write_run_alone(alloc, d, steps, resume, source, out).report(err)
 }
@@ -169,7 +172,8 @@ pub fn run_command<R: Threads + Wait + Sync, S: Source, K: Sink, E: Sink, G: Gat
         (change (K.held out.old) (K.held out.new) (K.faults out.old) (K.faults out.new)) result.cause }
     ensures unread { resume ≡ false → S.left source.new ≡ S.left source.old }
     ensures no_fault { resume ≡ false → S.faults source.new ≡ S.faults source.old }
-    ensures line { Reports (change (E.held err.old) (E.held err.new) (E.faults err.old) (E.faults err.new)) (err_text result.cause) }
+    ensures line { Reports (change (E.held err.old) (E.held err.new) (E.faults err.old) (E.faults err.new))
+        (err_text result.cause) }
 {
     write_run(rt, alloc, d, workers, steps, resume, source, out, gate).report(err)
 }

@@ -78,7 +78,8 @@ fn write_dead<K: Sink>(
     form: &Form,
     x: &Point,
 ) -> Result<(), Failed>
-    ensures bytes { Wrote (K.held out.old) (K.held out.new) result (dead_line normal.now.items at.now.items form.now x.now) }
+    ensures bytes { Wrote (K.held out.old) (K.held out.new) result
+        (dead_line normal.now.items at.now.items form.now x.now) }
     ensures cause { HasCause (K.faults out.old) (K.faults out.new) result }
 {
     start_with(out, b"dead", normal)?;
@@ -94,7 +95,8 @@ fn write_redundant<K: Sink>(
     scale: &i128,
     terms: &Terms,
 ) -> Result<(), Failed>
-    ensures bytes { Wrote (K.held out.old) (K.held out.new) result (redundant_line normal.now.items scale.now terms.now.items) }
+    ensures bytes { Wrote (K.held out.old) (K.held out.new) result
+        (redundant_line normal.now.items scale.now terms.now.items) }
     ensures cause { HasCause (K.faults out.old) (K.faults out.new) result }
 {
     start_with(out, b"redundant", normal)?;
@@ -212,9 +214,12 @@ fn write_lines<K: Sink>(out: &mut K, located: &Located, rows: &[SectionRow]) -> 
 /// The cone of a triangulation cut by the forms, the first of which has the triangulation.
 fn cut(alloc: Global, located: &Located, steps: u32, forms: &[Form]) -> Result<Section, Cause>
     requires forms { AreGiven forms.now }
-    requires located { IsLocated (dimension_of located.now.triangulation) steps (get_or forms.now 0 []) located.now.crossed located.now.triangulation }
-    ensures cut { IfOk result (λ s. IsCut (dimension_of located.now.triangulation) located.now.triangulation forms.now s.rows.items) }
-    ensures why { IfErr result (λ c. (c ≡ Memory) ⊎ IsTooHeavy forms.now (dimension_of located.now.triangulation) located.now.triangulation c) }
+    requires located { IsLocated (dimension_of located.now.triangulation) steps (get_or forms.now 0 [])
+        located.now.crossed located.now.triangulation }
+    ensures cut { IfOk result (λ s. IsCut (dimension_of located.now.triangulation) located.now.triangulation forms.now
+        s.rows.items) }
+    ensures why { IfErr result (λ c. (c ≡ Memory) ⊎ IsTooHeavy forms.now (dimension_of located.now.triangulation)
+        located.now.triangulation c) }
 {
     match section(alloc, &located.triangulation, forms) {
         Ok(section) => Ok(section),
@@ -246,7 +251,8 @@ fn write_cut<K: Sink>(alloc: Global, first: &Form, forms: &[Form], steps: u32, o
 /// Walks to the triangulation of the first of the forms, and writes its cone cut by them.
 fn write_section<K: Sink>(alloc: Global, forms: &[Form], steps: u32, out: &mut K) -> Cause
     requires { AreGiven forms.now }
-    ensures { AnswersSection steps forms.now (change (K.held out.old) (K.held out.new) (K.faults out.old) (K.faults out.new)) result }
+    ensures { AnswersSection steps forms.now
+        (change (K.held out.old) (K.held out.new) (K.faults out.old) (K.faults out.new)) result }
 {
     write_cut(alloc, &forms[0], forms, steps, out)
 }
@@ -269,10 +275,12 @@ pub fn section_command<K: Sink, E: Sink>(
     requires steps { steps ≤ most_crossings }
     requires forms { AreGiven forms.now }
     ensures code { result.code ≡ code_of result.cause }
-    ensures answer { AnswersSection steps forms.now (change (K.held out.old) (K.held out.new) (K.faults out.old) (K.faults out.new)) result.cause }
+    ensures answer { AnswersSection steps forms.now
+        (change (K.held out.old) (K.held out.new) (K.faults out.old) (K.faults out.new)) result.cause }
     ensures complete { NotRisen (K.faults out.old) (K.faults out.new) →
         EndsForm (IsTooHeavy forms.now) steps (get_or forms.now 0 []) result.cause }
-    ensures line { Reports (change (E.held err.old) (E.held err.new) (E.faults err.old) (E.faults err.new)) (err_text result.cause) }
+    ensures line { Reports (change (E.held err.old) (E.held err.new) (E.faults err.old) (E.faults err.new))
+        (err_text result.cause) }
 {
     write_section(alloc, forms, steps, out).report(err)
 }

@@ -235,7 +235,8 @@ impl Cause {
     /// Tells the cause, and makes it the end.
     pub fn report<E: Sink>(self, err: &mut E) -> Status
         ensures status { result ≡ record { code = code_of self; cause = self } }
-        ensures line { Reports (change (E.held err.old) (E.held err.new) (E.faults err.old) (E.faults err.new)) (err_text self) }
+        ensures line { Reports (change (E.held err.old) (E.held err.new) (E.faults err.old) (E.faults err.new))
+            (err_text self) }
     {
         // A failure of err changes nothing else.
         let _ = self.write(err);

@@ -32,7 +32,8 @@ fn normals(alloc: Global, rows: &[Row]) -> Result<Vec<Normal>, AllocError>
 
 /// The weight of an entry: that of the regulators that its cone lists.
 fn weight_of_entry(alloc: Global, entry: &Entry) -> Result<i128, AllocError>
-    ensures { IfOk result (λ w. (d : ℕ) → AreOfDimension d (normals_of (entry_of entry.now).cone.rows) → w ≡ pos (weight_of d (entry_of entry.now))) }
+    ensures { IfOk result (λ w. (d : ℕ) → AreOfDimension d (normals_of (entry_of entry.now).cone.rows) → w ≡ pos
+        (weight_of d (entry_of entry.now))) }
 {
     let normals = normals(alloc, &entry.cone.rows)?;
     Ok(weight(&normals))
@@ -101,7 +102,8 @@ fn write_entry<K: Sink>(
     marks: &[Mark],
     weight: i128,
 ) -> Result<(), Failed>
-    ensures bytes { (d : ℕ) → weight ≡ pos (weight_of d (entry_of entry.now)) → Wrote (K.held out.old) (K.held out.new) result
+    ensures bytes { (d : ℕ) → weight ≡ pos (weight_of d (entry_of entry.now)) → Wrote (K.held out.old)
+        (K.held out.new) result
         (entry_summary d k (entry_of entry.now) (map mark_of marks.now)) }
     ensures cause { HasCause (K.faults out.old) (K.faults out.new) result }
 {
@@ -119,7 +121,8 @@ fn write_entry<K: Sink>(
 /// Writes the lines of all entries.
 fn write_entries<K: Sink>(out: &mut K, atlas: &Atlas, weights: &[i128]) -> Result<(), Failed>
     requires { weights.now ≡ entry_weights atlas.now }
-    ensures bytes { Wrote (K.held out.old) (K.held out.new) result (entry_summaries atlas.now (length atlas.now.entries)) }
+    ensures bytes { Wrote (K.held out.old) (K.held out.new) result
+        (entry_summaries atlas.now (length atlas.now.entries)) }
     ensures cause { HasCause (K.faults out.old) (K.faults out.new) result }
 {
     atlas.keeps();

@@ -84,7 +84,8 @@ pub fn relevant_command<S: Source, K: Sink, E: Sink>(
     ensures complete { NotRisen (S.faults source.old) (S.faults source.new) →
         NotRisen (K.faults out.old) (K.faults out.new) → EndsRelevant d entry
         (change (S.left source.old) (S.left source.new) (S.faults source.old) (S.faults source.new)) result.cause }
-    ensures line { Reports (change (E.held err.old) (E.held err.new) (E.faults err.old) (E.faults err.new)) (err_text result.cause) }
+    ensures line { Reports (change (E.held err.old) (E.held err.new) (E.faults err.old) (E.faults err.new))
+        (err_text result.cause) }
 {
     write_relevant(alloc, d, entry, source, out).report(err)
 }
