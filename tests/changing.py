@@ -11,7 +11,7 @@ from typing import Any, Callable, TypeVar
 from ltypes_atlas import lattice
 from ltypes_atlas.text import (
     Atlas, Combination, Cross, Entry, Heavy, Mark, Matrix, Normal, Open, Origin, Regulator, Simplex, Wall, Wide,
-    numbers_of_form,
+    half, negative_of, numbers_of_form,
 )
 
 Bytes = Callable[[bytes, Random], bytes]
@@ -137,7 +137,9 @@ def entry_renumbered(data: bytes, random: Random) -> bytes:
 
 def another_version(data: bytes, random: Random) -> bytes:
     """Another first line."""
-    return random.choice([b"ltypes 2\n", b"ltypes 0\n", b"Ltypes 1\n"]) + data.partition(b"\n")[2]
+    first, _, rest = data.partition(b"\n")
+    other = b"ltypes 1\n" if first == b"ltypes 2" else b"ltypes 2\n"
+    return random.choice([other, b"ltypes 0\n", b"ltypes 3\n", first.replace(b"l", b"L", 1) + b"\n"]) + rest
 
 
 def too_long(data: bytes, random: Random) -> bytes:
@@ -338,20 +340,40 @@ def form_changed(entry: Entry, random: Random, _: Atlas) -> Entry:
 
 
 def classes_changed(entry: Entry, random: Random, atlas: Atlas) -> Entry:
-    """Classes exchanged, dropped, doubled, of another entry, or carried by a matrix."""
-    classes = entry.simplices
-    place = random.randrange(len(classes))
+    """Listed classes exchanged, dropped, doubled, of another entry, or carried by a matrix; or a class with its negative."""
+    listed, classes = entry.listed, entry.simplices
+    place = random.randrange(len(listed))
     shear = edited(lattice.identity(atlas.dimension), 0, (1,) * atlas.dimension)
     new = random.choice([
-        exchanged(classes, random),
-        edited(classes, place) if len(classes) > 1 else classes,
-        edited(classes, place, classes[place], classes[place]),
-        edited(classes, place, exchanged(classes[place], random)),
-        lattice.image(shear, classes),
-        lattice.image(random.choice(automorphisms(classes)), classes),
-        random.choice(atlas.entries).simplices,
+        exchanged(listed, random),
+        edited(listed, place) if len(listed) > 1 else listed,
+        edited(listed, place, listed[place], listed[place]),
+        edited(listed, place, exchanged(listed[place], random)),
+        listed_of(entry, lattice.image(shear, classes)),
+        listed_of(entry, lattice.image(random.choice(automorphisms(classes)), classes)),
+        random.choice(atlas.entries).listed,
+        *negatives_listed(listed, place),
     ])
-    return replace(entry, simplices=new)
+    return replace(entry, listed=new)
+
+
+def listed_of(entry: Entry, classes: tuple[Simplex, ...]) -> tuple[Simplex, ...]:
+    """The classes as the entry's version lists them."""
+    return classes if entry.version == 1 else half(classes)
+
+
+def negatives_listed(listed: tuple[Simplex, ...], place: int) -> list[tuple[Simplex, ...]]:
+    """A class with its negative beside it, in order or not, or in its place; all negatives; and all classes with theirs."""
+    negative = negative_of(listed[place])
+    negatives = tuple(map(negative_of, listed))
+    return [
+        edited(listed, place, listed[place], negative),
+        tuple(sorted(listed + (negative,))),
+        edited(listed, place, negative),
+        tuple(sorted(edited(listed, place, negative))),
+        tuple(sorted(negatives)),
+        tuple(sorted(set(listed + negatives))),
+    ]
 
 
 def other_origin(entry: Entry, random: Random, atlas: Atlas) -> Entry:
@@ -438,7 +460,7 @@ def equivalent_entry(atlas: Atlas, random: Random) -> Atlas:
     marks: tuple[Mark, ...] = tuple(moved_mark(old[row], mark.matrix) for row in came if row in old)
     if random.random() < 0.5:
         marks = tuple(Open() for _ in marks)
-    new = summed(Entry(count, Origin(number, facet), classes, rows, (), marks))
+    new = summed(Entry(entry.version, count, Origin(number, facet), listed_of(entry, classes), rows, (), marks))
     crossing = replace(entry, marks=edited(entry.marks, facet, Cross(count, lattice.identity(atlas.dimension))))
     return replace(atlas, entries=edited(atlas.entries, number, crossing) + (new,))
 

@@ -1,6 +1,8 @@
-"""What `ltypes check D` has to answer to bytes, by docs/FORMATS.md alone: its grammar, its ranges and its order of refusals.
+"""What `ltypes check D` and `ltypes convert D` have to answer to bytes, by docs/FORMATS.md alone: its grammar, its ranges and its order of
+refusals.
 
-The grammar below is strict and its own: it doesn't use the reader of tools/. The geometry is that of tools/ltypes_atlas.
+The grammar below is strict and its own: it doesn't use the reader of tools/. The geometry is that of tools/ltypes_atlas, and so is the
+text that `convert` writes once its input is judged right.
 """
 
 from __future__ import annotations
@@ -12,9 +14,9 @@ from itertools import permutations
 from math import comb
 from typing import Iterator, Optional, Sequence
 
-from ltypes_atlas import lattice
+from ltypes_atlas import converting, lattice, text
 from ltypes_atlas.rechecking import wrong_combination, wrong_wall
-from ltypes_atlas.text import Combination, Simplex, negative_of
+from ltypes_atlas.text import Combination, Simplex, half
 
 NATURAL = re.compile(rb"0|[1-9][0-9]*")
 WHOLE = re.compile(rb"0|-?[1-9][0-9]*")
@@ -45,7 +47,7 @@ class Mark:
 
 @dataclass
 class Spelt:
-    """An entry as it is spelt, and all of its classes where those that are listed are right."""
+    """An entry as it is spelt, and all of its classes once those that are listed are known to be right."""
 
     origin: Optional[tuple[int, int]]
     listed: Classes = ()
@@ -61,14 +63,17 @@ class Spelt:
 
 @dataclass
 class Answer:
-    """What the program has to answer: its status, and the line of standard output or standard error."""
+    """What the program has to answer: its status, and the line of standard output or standard error, or the whole text of an atlas."""
 
     status: int
     line: str
 
     def kind(self) -> str:
-        """The line without its numbers."""
-        return re.sub(r" -?[0-9]+", "", self.line)
+        """The first line without its numbers."""
+        return re.sub(r" -?[0-9]+", "", self.line.partition("\n")[0])
+
+    def __str__(self) -> str:
+        return f"status {self.status}, {self.line[:300]!r}"
 
 
 # ---- the grammar
@@ -286,7 +291,7 @@ def first_matrix(source: Classes, target: Classes) -> Optional[tuple[tuple[int, 
 
 def listed(classes: Classes, version: int) -> Classes:
     """The classes that a text lists: all of them, or in version 2 the one of each pair S, -S that comes first."""
-    return classes if version == 1 else tuple(simplex for simplex in classes if simplex < negative_of(simplex))
+    return classes if version == 1 else half(classes)
 
 
 def is_wide(classes: Classes) -> bool:
@@ -392,8 +397,8 @@ def input_limit(dimension: int) -> int:
     return 1 << 26 if dimension <= 5 else 1 << 30
 
 
-def judged(dimension: int, data: bytes, version: int = 1) -> Answer:
-    """What `ltypes check D` has to answer where it reads texts of this version."""
+def judged(dimension: int, data: bytes, version: int = 2) -> Answer:
+    """What `ltypes check D` has to answer, or would where it read texts of version 1."""
     if len(data) > input_limit(dimension):
         return Answer(3, "refused: too long")
     try:
@@ -402,3 +407,12 @@ def judged(dimension: int, data: bytes, version: int = 1) -> Answer:
         return Answer(3, f"refused: syntax line {fault.args[0]}")
     told = next(filter(None, tests(dimension, entries, found, version)), None)
     return Answer(0, total_line(entries)) if told is None else Answer(3, f"refused: {told}")
+
+
+def converted(dimension: int, data: bytes) -> Answer:
+    """What `ltypes convert D` has to answer: the text in version 2, without its last line feed, or a refusal."""
+    answer = judged(dimension, data, 1)
+    if answer.status:
+        return answer
+    atlas = converting.reopened(text.read(data.decode("ascii").splitlines(keepends=True)))
+    return Answer(0, "".join(text.written(atlas, 2)).removesuffix("\n"))

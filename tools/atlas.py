@@ -8,7 +8,7 @@ import os
 import sys
 from typing import Iterable, Sequence
 
-from ltypes_atlas import exporting, ordering, pictures, tables, text
+from ltypes_atlas import converting, exporting, ordering, pictures, tables, text
 from ltypes_atlas.rechecking import Recheck
 
 
@@ -50,6 +50,7 @@ def parser() -> argparse.ArgumentParser:
         ("export", "print the atlas in another language"),
         ("picture", "print a picture (SVG)"),
         ("reorder", "print the same atlas in another order of entries"),
+        ("convert", "print the same atlas in another version of the text, without wide and heavy marks"),
     ):
         command = commands.add_parser(name, help=told, description=told)
         command.add_argument("atlas", nargs="?", default="-", help="the file of the text; a stroke is standard input")
@@ -59,6 +60,8 @@ def parser() -> argparse.ArgumentParser:
             command.add_argument("--of", required=True, choices=sorted(pictures.PICTURES))
         if name == "reorder":
             command.add_argument("--seed", type=int, default=0)
+        if name == "convert":
+            command.add_argument("--to", type=int, choices=text.VERSIONS, default=2)
     return top
 
 
@@ -78,6 +81,8 @@ def main(words: Sequence[str]) -> int:
         return write_lines(exporting.WRITERS[asked.to](atlas))
     if asked.command == "picture":
         return write_lines(pictures.PICTURES[asked.of](atlas))
+    if asked.command == "convert":
+        return write_lines(text.written(converting.reopened(atlas), asked.to))
     return write_lines(text.written(ordering.reordered(atlas, asked.seed)))
 
 

@@ -13,22 +13,23 @@ from typing import Any, Callable
 
 sys.path.insert(0, str(Path(__file__).resolve().parent))
 
-from ltypes_atlas import exporting, lattice, ordering, pictures, tables, text
+from ltypes_atlas import converting, exporting, lattice, ordering, pictures, tables, text
 from ltypes_atlas.rechecking import Recheck
-from ltypes_atlas.text import Atlas, Combination, Cross, Entry, Heavy, Origin, Regulator, Simplex, Wall, Wide
+from ltypes_atlas.text import Atlas, Combination, Cross, Entry, Heavy, Origin, Regulator, Simplex, Wall, Wide, half, negative_of
 
 RESULTS = Path(__file__).resolve().parent.parent / "results"
 Change = Callable[[Atlas], Atlas]
 
 
-def lines_of(dimension: int) -> list[str]:
-    """The lines of the stored text."""
-    return (RESULTS / f"atlas-{dimension}.txt").read_text().splitlines(keepends=True)
+def lines_of(dimension: int, version: int = 2) -> list[str]:
+    """The lines of the stored text, which is of version 2, or of the same atlas in version 1."""
+    lines = (RESULTS / f"atlas-{dimension}.txt").read_text().splitlines(keepends=True)
+    return lines if version == 2 else list(text.written(text.read(lines), 1))
 
 
-def stored(dimension: int) -> Atlas:
+def stored(dimension: int, version: int = 2) -> Atlas:
     """The stored atlas."""
-    return text.read(lines_of(dimension))
+    return text.read(lines_of(dimension, version))
 
 
 def faults(atlas: Atlas) -> list[tuple[int, str, int]]:
@@ -56,9 +57,9 @@ def exchanged(values: tuple[Any, ...], i: int, j: int) -> tuple[Any, ...]:
     return edited(edited(values, i, values[j]), j, values[i])
 
 
-def simplices(change: Callable[[tuple[Simplex, ...]], tuple[Simplex, ...]]) -> Change:
-    """A change of the classes."""
-    return lambda atlas: with_entry(atlas, 1, simplices=change(atlas.entries[1].simplices))
+def listed(change: Callable[[tuple[Simplex, ...]], tuple[Simplex, ...]]) -> Change:
+    """A change of the listed classes."""
+    return lambda atlas: with_entry(atlas, 1, listed=change(atlas.entries[1].listed))
 
 
 def regulators(change: Callable[[tuple[Regulator, ...]], tuple[Regulator, ...]]) -> Change:
@@ -109,7 +110,7 @@ def listed_twice(atlas: Atlas) -> Atlas:
 def carried_start(atlas: Atlas) -> Atlas:
     """Entry 0 has the image of its classes under a shear."""
     shear = edited(lattice.identity(4), 0, (1, 1, 0, 0))
-    return with_entry(atlas, 0, simplices=lattice.image(shear, atlas.entries[0].simplices))
+    return with_entry(atlas, 0, listed=half(lattice.image(shear, atlas.entries[0].simplices)))
 
 
 def turned_origin(atlas: Atlas) -> Atlas:
@@ -129,12 +130,16 @@ def form(change: Callable[[text.Form], text.Form]) -> Change:
 
 
 PLANTED: dict[str, tuple[Change, tuple[int, str, int]]] = {
-    "a class dropped": (simplices(lambda s: edited(s, 3)), (1, "simplex", 23)),
-    "a class doubled": (simplices(lambda s: edited(s, 3, s[3], s[3])), (1, "simplex", 4)),
-    "classes exchanged": (simplices(lambda s: exchanged(s, 3, 9)), (1, "simplex", 4)),
-    "a coordinate changed": (simplices(lambda s: edited(s, 3, moved_vertex(s[3]))), (1, "simplex", 1)),
-    "points exchanged": (simplices(lambda s: edited(s, 3, exchanged(s[3], 1, 2))), (1, "simplex", 3)),
-    "dependent points": (simplices(lambda s: edited(s, 3, edited(s[3], 4, doubled(s[3][3])))), (1, "simplex", 3)),
+    "a class dropped": (listed(lambda s: edited(s, 3)), (1, "simplex", 11)),
+    "a class doubled": (listed(lambda s: edited(s, 3, s[3], s[3])), (1, "simplex", 4)),
+    "classes exchanged": (listed(lambda s: exchanged(s, 3, 9)), (1, "simplex", 4)),
+    "a coordinate changed": (listed(lambda s: edited(s, 3, moved_vertex(s[3]))), (1, "simplex", 1)),
+    "points exchanged": (listed(lambda s: edited(s, 3, exchanged(s[3], 1, 2))), (1, "simplex", 3)),
+    "dependent points": (listed(lambda s: edited(s, 3, edited(s[3], 4, doubled(s[3][3])))), (1, "simplex", 3)),
+    "a negative in the place of a class": (listed(lambda s: edited(s, 11, negative_of(s[11]))), (1, "simplex", 11)),
+    "a negative beside its class": (listed(lambda s: s + (negative_of(s[11]),)), (1, "simplex", 12)),
+    "all negatives": (listed(lambda s: tuple(sorted(map(negative_of, s)))), (1, "simplex", 0)),
+    "all classes": (lambda atlas: with_entry(atlas, 1, listed=atlas.entries[1].simplices), (1, "simplex", 23)),
     "a regulator dropped": (regulators(lambda r: edited(r, 6)), (1, "regulator", 6)),
     "regulators exchanged": (regulators(lambda r: exchanged(r, 6, 7)), (1, "regulator", 6)),
     "a regulator that is none": (
@@ -183,8 +188,8 @@ BROKEN: dict[str, Callable[[list[str]], list[str]]] = {
     "no end": lambda lines: lines[:-1],
     "a tail": lambda lines: lines + ["end\n"],
     "no last line feed": lambda lines: lines[:-1] + ["end"],
-    "a carriage return": lambda lines: ["ltypes 1\r\n"] + lines[1:],
-    "two spaces": lambda lines: ["ltypes  1\n"] + lines[1:],
+    "a carriage return": lambda lines: ["ltypes 2\r\n"] + lines[1:],
+    "two spaces": lambda lines: ["ltypes  2\n"] + lines[1:],
     "an unknown version": lambda lines: ["ltypes 3\n"] + lines[1:],
     "a number with a plus": lambda lines: [lines[0], "dimension +4\n"] + lines[2:],
     "an entry renumbered": lambda lines: [line.replace("entry 1 ", "entry 2 ") for line in lines],
@@ -196,20 +201,34 @@ class Texts(unittest.TestCase):
 
     def test_written_as_read(self) -> None:
         for dimension in (2, 3, 4):
-            self.assertEqual(list(text.written(stored(dimension))), lines_of(dimension))
+            for version in text.VERSIONS:
+                lines = lines_of(dimension, version)
+                self.assertEqual(lines[0], f"ltypes {version}\n")
+                self.assertEqual(list(text.written(text.read(lines))), lines)
+
+    def test_bytes(self) -> None:
+        for version, counts in ((1, [240, 638, 7166]), (2, [228, 566, 5722])):
+            self.assertEqual([len("".join(lines_of(dimension, version))) for dimension in (2, 3, 4)], counts)
 
     def test_entries_one_by_one(self) -> None:
         self.assertEqual(tuple(text.read_entries(lines_of(4))), stored(4).entries)
 
     def test_half_lists_are_completed(self) -> None:
         for dimension in (2, 3, 4):
-            atlas = stored(dimension)
-            half = list(text.written(atlas, 2))
-            self.assertEqual(half[0], "ltypes 2\n")
-            self.assertEqual(half[4], f"simplices {len(atlas.entries[0].simplices) // 2}\n")
-            again = text.read(half)
-            self.assertEqual(again.entries, atlas.entries)
-            self.assertEqual(list(text.written(again)), half)
+            for entry, whole in zip(stored(dimension).entries, stored(dimension, 1).entries):
+                self.assertEqual(2 * len(entry.listed), len(entry.simplices))
+                self.assertEqual(entry.simplices, whole.simplices)
+                self.assertEqual(whole.simplices, whole.listed)
+        self.assertEqual(stored(4).entries[0].simplices, lattice.principal(4))
+
+    def test_versions_are_converted(self) -> None:
+        for dimension in (2, 3, 4):
+            first, second = stored(dimension, 1), stored(dimension)
+            self.assertEqual(list(text.written(converting.reopened(first), 2)), lines_of(dimension))
+            self.assertEqual(list(text.written(converting.reopened(second), 1)), lines_of(dimension, 1))
+        stuck = marks(lambda m: (Wide(401, lattice.principal(4)[0]), Heavy(1 << 112)) + m[2:])(stored(4, 1))
+        crossed = converting.reopened(stuck).entries[1].marks
+        self.assertEqual(crossed, (text.Open(), text.Open()) + stored(4).entries[1].marks[2:])
 
     def test_broken_texts(self) -> None:
         for name, change in BROKEN.items():
@@ -222,12 +241,20 @@ class Rechecks(unittest.TestCase):
 
     def test_no_fault(self) -> None:
         for dimension in (2, 3, 4):
-            self.assertEqual(faults(stored(dimension)), [])
+            for version in text.VERSIONS:
+                self.assertEqual(faults(stored(dimension, version)), [])
 
     def test_planted_faults(self) -> None:
         for name, (change, expected) in PLANTED.items():
             with self.subTest(name):
                 self.assertIn(expected, faults(change(stored(4))))
+
+    def test_first_versions_list_all_classes(self) -> None:
+        """A text of version 1 with half of the classes, and one of version 2 with all of them."""
+        half_listed = with_entry(stored(4, 1), 1, listed=stored(4).entries[1].listed)
+        self.assertIn((1, "simplex", 12), faults(half_listed))
+        whole = ["ltypes 2\n"] + lines_of(4, 1)[1:]
+        self.assertIn((0, "simplex", 23), faults(text.read(whole)))
 
     def test_open_marks_are_no_faults(self) -> None:
         self.assertEqual(faults(mark(2, lambda _: text.Open())(stored(4))), [])
@@ -236,7 +263,7 @@ class Rechecks(unittest.TestCase):
         """The image of an entry under another matrix is found by the exact trial."""
         atlas = stored(4)
         shear = edited(lattice.identity(4), 1, (0, 1, 0, -1))
-        moved: Entry = replace(atlas.entries[2], number=3, simplices=lattice.image(shear, atlas.entries[2].simplices))
+        moved: Entry = replace(atlas.entries[2], number=3, listed=half(lattice.image(shear, atlas.entries[2].simplices)))
         self.assertIn((3, "entry", 3), faults(replace(atlas, entries=atlas.entries + (moved,))))
 
 
@@ -254,7 +281,7 @@ class Orders(unittest.TestCase):
         branches = tuple(replace(second, number=k, origin=Origin(0 if k < 4 else 1, k)) for k in range(1, 7))
         found = set()
         for seed in range(20):
-            atlas = ordering.reordered(Atlas(1, 4, (first,) + branches), seed)
+            atlas = ordering.reordered(Atlas(2, 4, (first,) + branches), seed)
             self.assertEqual([entry.number for entry in atlas.entries], list(range(7)))
             self.assertTrue(all(e.origin.entry < e.number for e in atlas.entries[1:] if e.origin))
             found.add(tuple(e.origin for e in atlas.entries))

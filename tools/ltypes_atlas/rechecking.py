@@ -13,7 +13,8 @@ from typing import Iterator, Sequence, Union
 from ltypes_atlas import lattice
 from ltypes_atlas.lattice import Invariant, NotClosed, Pair, Shape, dot
 from ltypes_atlas.text import (
-    Atlas, Combination, Cross, Entry, Form, Heavy, Matrix, Normal, Origin, Regulator, Simplex, Wall, Wide, numbers_of_form,
+    Atlas, Combination, Cross, Entry, Form, Heavy, Matrix, Normal, Origin, Regulator, Simplex, Wall, Wide, comes_first, negative_of,
+    numbers_of_form,
 )
 
 NUMBER_LIMIT = 1 << 62
@@ -111,8 +112,9 @@ class Recheck:
         return ""
 
     def triangulation_faults(self, entry: Entry) -> Iterator[Fault]:
-        """The classes ascend, are simplices, closed under facets, of total volume d! and within the span limit."""
-        wrong = [fault for row in range(len(entry.simplices)) for fault in self.class_faults(entry, row)]
+        """The listed classes ascend and are simplices within the span limit, the first of each pair where half of them are listed; all
+        classes are closed under facets, of total volume d!."""
+        wrong = [fault for row in range(len(entry.listed)) for fault in self.class_faults(entry, row)]
         yield from wrong
         if wrong:
             return
@@ -120,20 +122,22 @@ class Recheck:
             for _ in lattice.pairs(entry.simplices):
                 pass
         except NotClosed as error:
-            yield Fault(entry.number, "simplex", error.member, str(error))
+            yield Fault(entry.number, "simplex", row_of(entry, error.member), str(error))
         total = sum(lattice.volume(simplex) for simplex in entry.simplices)
         if total != factorial(self.dimension):
-            yield Fault(entry.number, "simplex", len(entry.simplices), f"the total volume is {total} / {self.dimension}!")
+            yield Fault(entry.number, "simplex", len(entry.listed), f"the total volume is {total} / {self.dimension}!")
 
     def class_faults(self, entry: Entry, row: int) -> Iterator[Fault]:
-        """One class: ascending points from 0, independent, and behind the class before it."""
-        simplex = entry.simplices[row]
+        """One class: ascending points from 0, independent, behind the class before it, and the first of its pair in version 2."""
+        simplex = entry.listed[row]
         if any(simplex[0]) or any(a >= b for a, b in zip(simplex, simplex[1:])):
             yield Fault(entry.number, "simplex", row, "the points don't ascend from 0")
         elif lattice.volume(simplex) == 0:
             yield Fault(entry.number, "simplex", row, "the points are dependent")
-        if row and entry.simplices[row - 1] >= simplex:
+        if row and entry.listed[row - 1] >= simplex:
             yield Fault(entry.number, "simplex", row, "the classes don't ascend")
+        if entry.version == 2 and not comes_first(simplex):
+            yield Fault(entry.number, "simplex", row, "the class of its negatives comes first")
         if lattice.is_wide(simplex):
             yield Fault(entry.number, "simplex", row, "the span is above the limit")
 
@@ -222,6 +226,12 @@ class Recheck:
                 if matrix is not None:
                     yield Fault(entry.number, "entry", entry.number, f"it is equivalent to entry {number}, by {matrix}")
             shapes[shape.invariant].append((entry.number, shape))
+
+
+def row_of(entry: Entry, member: int) -> int:
+    """The row of a class, or else that of its negative."""
+    simplex = entry.simplices[member]
+    return entry.listed.index(simplex if simplex in entry.listed else negative_of(simplex))
 
 
 def wrong_wall(normals: Sequence[Normal], row: int, form: Form) -> str:

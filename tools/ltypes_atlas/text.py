@@ -2,13 +2,15 @@
 
 The text is described in docs/FORMATS.md. All numbers are whole numbers of any size. A form and a normal have
 n = d (d + 1) / 2 numbers, a simplex d + 1 points of d coordinates, a matrix d rows of d numbers.
-Version 2 lists one class of each pair S, -S; the reader completes the list, so that an `Entry` holds all classes.
+A text of version 2 lists the first class of each pair S, -S, one of version 1 lists all classes. An `Entry` holds the classes that
+its text lists, and all of them besides.
 """
 
 from __future__ import annotations
 
 import re
 from dataclasses import dataclass
+from functools import cached_property
 from typing import Callable, Iterable, Iterator, TypeVar, Union
 
 Point = tuple[int, ...]
@@ -94,14 +96,29 @@ class Origin:
 
 @dataclass(frozen=True)
 class Entry:
-    """A type: its classes of simplices, its regulators with certificates, a form inside its cone, and its marks."""
+    """A type: its classes of simplices, its regulators with certificates, a form inside its cone, and its marks.
 
+    `listed` are the classes as a text of the version lists them.
+    """
+
+    version: int
     number: int
     origin: Union[Origin, None]
-    simplices: tuple[Simplex, ...]
+    listed: tuple[Simplex, ...]
     regulators: tuple[Regulator, ...]
     form: Form
     marks: tuple[Mark, ...]
+
+    @cached_property
+    def simplices(self) -> tuple[Simplex, ...]:
+        """All classes: those of version 2 and their negatives, in ascending order."""
+        return self.listed if self.version == 1 else completed(self.listed)
+
+    def listed_in(self, version: int) -> tuple[Simplex, ...]:
+        """The classes as a text of a version lists them."""
+        if version == self.version:
+            return self.listed
+        return self.simplices if version == 1 else half(self.simplices)
 
     def facets(self) -> Iterator[tuple[int, Normal, Form]]:
         """The rows of the facets in order, each with its normal and its wall form."""
@@ -145,6 +162,21 @@ def class_of(points: Iterable[Point]) -> Simplex:
 def negative_of(simplex: Simplex) -> Simplex:
     """The class of the simplex reflected at 0."""
     return class_of(tuple(-a for a in point) for point in simplex)
+
+
+def comes_first(simplex: Simplex) -> bool:
+    """Whether a class comes before its negative."""
+    return simplex < negative_of(simplex)
+
+
+def half(simplices: Iterable[Simplex]) -> tuple[Simplex, ...]:
+    """The classes that come before their negatives."""
+    return tuple(filter(comes_first, simplices))
+
+
+def completed(listed: tuple[Simplex, ...]) -> tuple[Simplex, ...]:
+    """The classes and their negatives."""
+    return tuple(sorted(listed + tuple(map(negative_of, listed))))
 
 
 def grouped(numbers: tuple[int, ...], size: int) -> tuple[tuple[int, ...], ...]:
@@ -208,7 +240,7 @@ class Reader:
     def __init__(self, lines: Iterable[str]) -> None:
         self.lines = iter(lines)
         self.number = 0
-        self.version = 1
+        self.version = 2
         self.dimension = 0
 
     def line(self) -> Cursor:
@@ -251,13 +283,6 @@ class Reader:
     def simplex(self, cursor: Cursor) -> Simplex:
         """A simplex, point by point."""
         return grouped(cursor.numbers((self.dimension + 1) * self.dimension), self.dimension)
-
-    def simplices(self) -> tuple[Simplex, ...]:
-        """The classes; those of version 2 are completed."""
-        listed = self.listed("simplices", self.simplex)
-        if self.version == 1:
-            return listed
-        return tuple(sorted(listed + tuple(negative_of(simplex) for simplex in listed)))
 
     def regulator(self, cursor: Cursor) -> Regulator:
         """A regulator with its certificate."""
@@ -304,10 +329,10 @@ class Reader:
     def entry(self, number: int) -> Entry:
         """The lines of the entry with this number."""
         origin = self.origin(number)
-        simplices = self.simplices()
+        simplices = self.listed("simplices", self.simplex)
         regulators = self.listed("regulators", self.regulator)
         form = self.form()
-        return Entry(number, origin, simplices, regulators, form, self.listed("marks", self.mark))
+        return Entry(self.version, number, origin, simplices, regulators, form, self.listed("marks", self.mark))
 
     def finish(self) -> None:
         """The last line, behind which nothing stands."""
@@ -370,7 +395,7 @@ def entry_lines(entry: Entry, version: int) -> Iterator[str]:
     origin = entry.origin
     came = ("start",) if origin is None else ("from", origin.entry, origin.facet)
     yield spelt("entry", entry.number, *came)
-    listed = [s for s in entry.simplices if version == 1 or s < negative_of(s)]
+    listed = entry.listed_in(version)
     yield spelt("simplices", len(listed))
     yield from (spelt(flat(simplex)) for simplex in listed)
     yield spelt("regulators", len(entry.regulators))

@@ -1,4 +1,5 @@
 pub mod Negated
+pub mod Halved
 pub mod Holding
 pub mod Halves
 pub mod Shortest

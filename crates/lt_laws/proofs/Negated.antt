@@ -1,6 +1,8 @@
 -- The negatives of the points of a simplex, in the order turned round.
-use Rattle.std.proofs.Common.{◌≡◌, ◌≢◌, ℕ, zero, suc, ℤ, pos, negsuc, ◌+ℤ◌, ◌-ℤ◌, ◌*ℤ◌, ◌<ℤ◌, ◌≤ℤ◌, ◌<◌, ◌≤◌, refl, ap, ap₂, arith, sym, ◌∙◌, subst, List, [], ◌∷◌, ◌++◌, length, length-append, map, get_or, ◌⊎◌, inl, inr}
+use Rattle.std.proofs.Common.{◌≡◌, ◌≢◌, ℕ, zero, suc, ℤ, pos, negsuc, ◌+ℤ◌, ◌-ℤ◌, ◌*ℤ◌, ◌<ℤ◌, ◌≤ℤ◌, ◌-◌, ◌<◌, ◌≤◌, refl, ap, ap₂, arith, sym, ◌∙◌, subst, List, [], ◌∷◌, ◌++◌, length, map, get_or, reverse, ◌⊎◌, inl, inr}
 use Rattle.std.proofs.lemmas.Int.{ints}
+use Rattle.std.proofs.lemmas.List.{length-reverse, reverse-reverse, get_or-reverse, get_or-map}
+use Rattle.std.proofs.lemmas.Grind.{reverse_onto}
 use Rattle.std.specs.List.{Contains, AllByRecursion}
 use Rattle.std.specs.List.Sorted.{IsStrictlySortedBy}
 use Rattle.std.specs.declared.cmp.Ordering.{Ordering}
@@ -9,13 +11,14 @@ use Rattle.std.specs.Ordering.{MatchOrdering, int_cmp, ordering_then}
 use Rattle.std.specs.Cmp.{int_cmp_is, int_ranks}
 use Rattle.std.proofs.lemmas.List.Elements.{Contains-append_left, Contains-append_right}
 use Rattle.lt_model.proofs.Ring.{ring, var, num, ◌⊗◌}
-use Rattle.lt_model.proofs.Vectors.{dot-plus, dot-scale, dot_comm, scale-scale}
+use Rattle.lt_model.proofs.Vectors.{dot-plus, dot-scale, dot_comm, scale-plus, scale-scale}
 use Rattle.lt_model.proofs.Squares.{length-scale}
 use Rattle.lt_model.proofs.Excess.{dot-combine, same_from_dots, scale-dot}
 use Rattle.lt_model.proofs.Walk.{length-combine, length-map}
 use Rattle.lt_geometry.proofs.Motions.{minus_itself}
 use Rattle.lt_geometry.proofs.LocalWalk.{zeros-plus}
 use Rattle.lt_geometry.proofs.WalkEnds.{scale-one}
+use Rattle.lt_geometry.proofs.Fewness.{scale-zeros}
 use Rattle.lt_model.proofs.Opposite.{length-zeros, zeros-dot}
 use Rattle.lt_model.proofs.Dependent.{map-map_vectors, length-map_vectors}
 use Rattle.lt_model.proofs.Moved.{translate-back, simplex_moved}
@@ -27,83 +30,62 @@ use Rattle.lt_model.specs.Vectors.{plus, scale, dot, total, combine, zeros}
 use Rattle.lt_model.specs.Forms.{value}
 use Rattle.lt_model.specs.Simplices.{AllOfDimension, IsSimplex, IsClass, IsClassOf, IsExpression, IsStrictlyEmpty, excess, translate}
 use Rattle.lt_model.specs.Triangulations.{IsDelaunay}
-use Rattle.lt_laws.specs.Negatives.{negated}
+use Rattle.lt_model.specs.Negatives.{negated, negative}
 use Rattle.lt_geometry.proofs.Reading.{dot-append_both}
 use Rattle.lt_geometry.proofs.Closed.{get_dimension}
 use Rattle.lt_geometry.proofs.Parity.{value-negative, one_of_two, index_of}
 
-abbrev pub backward : {X : Type 0} → List X → List X
-backward [] = []
-backward (x ∷ xs) = backward xs ++ (x ∷ [])
-
 module _ {X : Type 0} where
-  pub length-backward : (xs : List X) → length (backward xs) ≡ length xs
-  length-backward [] = refl
-  length-backward (x ∷ xs) = omega (arith, length-append (backward xs) (x ∷ []), length-backward xs)
+  reverse_more : (x : X) (xs : List X) → reverse (x ∷ xs) ≡ reverse xs ++ (x ∷ [])
+  reverse_more x xs = reverse_onto xs x []
 
-  backward-append : (xs ys : List X) → backward (xs ++ ys) ≡ backward ys ++ backward xs
-  backward-append [] ys = sym (nil (backward ys))
-    where
-      nil : (xs : List X) → xs ++ [] ≡ xs
-      nil [] = refl
-      nil (x ∷ xs) = ap (λ (l : List X). x ∷ l) (nil xs)
-  backward-append (x ∷ xs) ys = ap (λ (l : List X). l ++ (x ∷ [])) (backward-append xs ys) ∙ assoc (backward ys) (backward xs) (x ∷ [])
-    where
-      assoc : (a b c : List X) → (a ++ b) ++ c ≡ a ++ (b ++ c)
-      assoc [] b c = refl
-      assoc (z ∷ a) b c = ap (λ (l : List X). z ∷ l) (assoc a b c)
+  pub reverse_has : (xs : List X) (x : X) → Contains xs x → Contains (reverse xs) x
+  reverse_has [] x c = c
+  reverse_has (y ∷ xs) x c =
+      rw (reverse_more y xs) (elim (Contains-cases y xs x c) [
+        | inl e ↦ Contains-append_right (reverse xs) (y ∷ []) x (subst (λ (w : X). Contains (y ∷ []) w) e (Contains-head y []))
+        | inr r ↦ Contains-append_left (reverse xs) (y ∷ []) x (reverse_has xs x r)
+      ])
 
-  pub backward-backward : (xs : List X) → backward (backward xs) ≡ xs
-  backward-backward [] = refl
-  backward-backward (x ∷ xs) = backward-append (backward xs) (x ∷ []) ∙ ap (λ (l : List X). x ∷ l) (backward-backward xs)
-
-  pub backward_has : (xs : List X) (x : X) → Contains xs x → Contains (backward xs) x
-  backward_has [] x c = c
-  backward_has (y ∷ xs) x c =
-      elim (Contains-cases y xs x c) [
-        | inl e ↦ Contains-append_right (backward xs) (y ∷ []) x (subst (λ (w : X). Contains (y ∷ []) w) e (Contains-head y []))
-        | inr r ↦ Contains-append_left (backward xs) (y ∷ []) x (backward_has xs x r)
-      ]
-
-  pub backward_from : (xs : List X) (x : X) → Contains (backward xs) x → Contains xs x
-  backward_from xs x c = subst (λ (l : List X). Contains l x) (backward-backward xs) (backward_has (backward xs) x c)
+  pub reverse_from : (xs : List X) (x : X) → Contains (reverse xs) x → Contains xs x
+  reverse_from xs x c = subst (λ (l : List X). Contains l x) (reverse-reverse xs) (reverse_has (reverse xs) x c)
 
   all-append : (P : X → Type 0) (xs ys : List X) → AllByRecursion P xs → AllByRecursion P ys → AllByRecursion P (xs ++ ys)
   all-append P [] ys a b = b
   all-append P (x ∷ xs) ys a b = (a.0, all-append P xs ys a.1 b)
 
-  pub all-backward : (P : X → Type 0) (xs : List X) → AllByRecursion P xs → AllByRecursion P (backward xs)
-  all-backward P [] a = tt
-  all-backward P (x ∷ xs) a = all-append P (backward xs) (x ∷ []) (all-backward P xs a.1) (a.0, tt)
+  pub all-reverse : (P : X → Type 0) (xs : List X) → AllByRecursion P xs → AllByRecursion P (reverse xs)
+  all-reverse P [] a = tt
+  all-reverse P (x ∷ xs) a = rw (reverse_more x xs) (all-append P (reverse xs) (x ∷ []) (all-reverse P xs a.1) (a.0, tt))
 
-map-backward : {X Y : Type 0} (f : X → Y) (xs : List X) → map f (backward xs) ≡ backward (map f xs)
-map-backward f [] = refl
-map-backward {X} {Y} f (x ∷ xs) = append (backward xs) (x ∷ []) ∙ ap (λ (l : List Y). l ++ (f x ∷ [])) (map-backward f xs)
+map-reverse : {X Y : Type 0} (f : X → Y) (xs : List X) → map f (reverse xs) ≡ reverse (map f xs)
+map-reverse f [] = refl
+map-reverse {X} {Y} f (x ∷ xs) = ap (map f) (reverse_more x xs) ∙ append (reverse xs) (x ∷ []) ∙ ap (λ (l : List Y). l ++ (f x ∷ [])) (map-reverse f xs) ∙ sym (reverse_more (f x) (map f xs))
   where
     append : (a b : List X) → map f (a ++ b) ≡ map f a ++ map f b
     append [] b = refl
     append (z ∷ a) b = ap (λ (l : List Y). f z ∷ l) (append a b)
 
-dot-backward : (b u : List ℤ) → length b ≡ length u → dot (backward b) (backward u) ≡ dot b u
-dot-backward [] [] l = refl
-dot-backward [] (y ∷ u) l = absurd (omega arith)
-dot-backward (a ∷ b) [] l = absurd (omega arith)
-dot-backward (a ∷ b) (y ∷ u) l =
+dot-reverse : (b u : List ℤ) → length b ≡ length u → dot (reverse b) (reverse u) ≡ dot b u
+dot-reverse [] [] l = refl
+dot-reverse [] (y ∷ u) l = absurd (omega arith)
+dot-reverse (a ∷ b) [] l = absurd (omega arith)
+dot-reverse (a ∷ b) (y ∷ u) l =
     let same : length b ≡ length u = omega arith in
-    let e = dot-append_both (backward b) (a ∷ []) (backward u) (y ∷ []) (length-backward b ∙ same ∙ sym (length-backward u)) in
-    omega (arith, ints, e, dot-backward b u same)
+    let e = dot-append_both (reverse b) (a ∷ []) (reverse u) (y ∷ []) (length-reverse b ∙ same ∙ sym (length-reverse u)) in
+    ap₂ dot (reverse_more a b) (reverse_more y u) ∙ omega (arith, ints, e, dot-reverse b u same)
 
 total-append : (a b : List ℤ) → total (a ++ b) ≡ total a +ℤ total b
 total-append [] b = omega (arith, ints)
 total-append (x ∷ a) b = omega (arith, ints, total-append a b)
 
-total-backward : (b : List ℤ) → total (backward b) ≡ total b
-total-backward [] = refl
-total-backward (a ∷ b) = omega (arith, ints, total-append (backward b) (a ∷ []), total-backward b)
+total-reverse : (b : List ℤ) → total (reverse b) ≡ total b
+total-reverse [] = refl
+total-reverse (a ∷ b) = ap total (reverse_more a b) ∙ omega (arith, ints, total-append (reverse b) (a ∷ []), total-reverse b)
 
-backward-zeros : (n : ℕ) → backward (zeros n) ≡ zeros n
-backward-zeros zero = refl
-backward-zeros (suc n) = ap (λ (l : List ℤ). l ++ (pos 0 ∷ [])) (backward-zeros n) ∙ last n
+reverse-zeros : (n : ℕ) → reverse (zeros n) ≡ zeros n
+reverse-zeros zero = refl
+reverse-zeros (suc n) = reverse_more (pos 0) (zeros n) ∙ ap (λ (l : List ℤ). l ++ (pos 0 ∷ [])) (reverse-zeros n) ∙ last n
   where
     last : (n : ℕ) → zeros n ++ (pos 0 ∷ []) ≡ pos 0 ∷ zeros n
     last zero = refl
@@ -116,25 +98,25 @@ map_each f g (v ∷ vs) h = ap₂ (λ (x : ℤ) (l : List ℤ). x ∷ l) (h v) (
 -- ---- the negatives
 
 abbrev pub turned_round : List (List ℤ) → List (List ℤ)
-turned_round vs = backward (negated vs)
+turned_round vs = reverse (negated vs)
 
 length-turned : (vs : List (List ℤ)) → length (turned_round vs) ≡ length vs
-length-turned vs = length-backward (negated vs) ∙ length-map_vectors (scale (negsuc 0)) vs
+length-turned vs = length-reverse (negated vs) ∙ length-map_vectors (scale (negsuc 0)) vs
 
-dot-turned : (g : List ℤ → ℤ) (b : List ℤ) (vs : List (List ℤ)) → length b ≡ length vs → dot b (map g (turned_round vs)) ≡ dot (backward b) (map (λ v. g (scale (negsuc 0) v)) vs)
+dot-turned : (g : List ℤ → ℤ) (b : List ℤ) (vs : List (List ℤ)) → length b ≡ length vs → dot b (map g (turned_round vs)) ≡ dot (reverse b) (map (λ v. g (scale (negsuc 0) v)) vs)
 dot-turned g b vs l =
-    let e : map g (turned_round vs) ≡ backward (map g (negated vs)) = map-backward g (negated vs) in
+    let e : map g (turned_round vs) ≡ reverse (map g (negated vs)) = map-reverse g (negated vs) in
     let f : map g (negated vs) ≡ map (λ v. g (scale (negsuc 0) v)) vs = map-map_vectors g (scale (negsuc 0)) vs in
-    let lb : length (backward b) ≡ length (map (λ v. g (scale (negsuc 0) v)) vs) = length-backward b ∙ l ∙ sym (length-map (λ v. g (scale (negsuc 0) v)) vs) in
-    ap (dot b) (e ∙ ap backward f) ∙ ap (λ (x : List ℤ). dot x (backward (map (λ v. g (scale (negsuc 0) v)) vs))) (sym (backward-backward b)) ∙ dot-backward (backward b) (map (λ v. g (scale (negsuc 0) v)) vs) lb
+    let lb : length (reverse b) ≡ length (map (λ v. g (scale (negsuc 0) v)) vs) = length-reverse b ∙ l ∙ sym (length-map (λ v. g (scale (negsuc 0) v)) vs) in
+    ap (dot b) (e ∙ ap reverse f) ∙ ap (λ (x : List ℤ). dot x (reverse (map (λ v. g (scale (negsuc 0) v)) vs))) (sym (reverse-reverse b)) ∙ dot-reverse (reverse b) (map (λ v. g (scale (negsuc 0) v)) vs) lb
 
-turned_value : (q b : List ℤ) (vs : List (List ℤ)) → length b ≡ length vs → dot b (map (value q) (turned_round vs)) ≡ dot (backward b) (map (value q) vs)
-turned_value q b vs l = dot-turned (value q) b vs l ∙ ap (dot (backward b)) (map_each (λ v. value q (scale (negsuc 0) v)) (value q) vs (value-negative q))
+turned_value : (q b : List ℤ) (vs : List (List ℤ)) → length b ≡ length vs → dot b (map (value q) (turned_round vs)) ≡ dot (reverse b) (map (value q) vs)
+turned_value q b vs l = dot-turned (value q) b vs l ∙ ap (dot (reverse b)) (map_each (λ v. value q (scale (negsuc 0) v)) (value q) vs (value-negative q))
 
-turned_linear : (u b : List ℤ) (vs : List (List ℤ)) → length b ≡ length vs → dot u (combine b (turned_round vs)) ≡ negsuc 0 *ℤ dot u (combine (backward b) vs)
+turned_linear : (u b : List ℤ) (vs : List (List ℤ)) → length b ≡ length vs → dot u (combine b (turned_round vs)) ≡ negsuc 0 *ℤ dot u (combine (reverse b) vs)
 turned_linear u b vs l =
     let e : (v : List ℤ) → dot u (scale (negsuc 0) v) ≡ dot (scale (negsuc 0) u) v = λ v. dot-scale u (negsuc 0) v ∙ sym (scale-dot (negsuc 0) u v) in
-    dot-combine u b (turned_round vs) ∙ dot-turned (dot u) b vs l ∙ ap (dot (backward b)) (map_each (λ v. dot u (scale (negsuc 0) v)) (dot (scale (negsuc 0) u)) vs e) ∙ sym (dot-combine (scale (negsuc 0) u) (backward b) vs) ∙ scale-dot (negsuc 0) u (combine (backward b) vs)
+    dot-combine u b (turned_round vs) ∙ dot-turned (dot u) b vs l ∙ ap (dot (reverse b)) (map_each (λ v. dot u (scale (negsuc 0) v)) (dot (scale (negsuc 0) u)) vs e) ∙ sym (dot-combine (scale (negsuc 0) u) (reverse b) vs) ∙ scale-dot (negsuc 0) u (combine (reverse b) vs)
 
 pub twice_negative : (x : List ℤ) → scale (negsuc 0) (scale (negsuc 0) x) ≡ x
 twice_negative x = scale-scale (negsuc 0) (negsuc 0) x ∙ scale-one x
@@ -144,7 +126,7 @@ negated_all d [] a = tt
 negated_all d (v ∷ vs) a = (length-scale (negsuc 0) v ∙ a.0, negated_all d vs a.1)
 
 turned_all : (d : ℕ) (vs : List (List ℤ)) → AllOfDimension d vs → AllOfDimension d (turned_round vs)
-turned_all d vs a = all-backward (λ v. length v ≡ d) (negated vs) (negated_all d vs a)
+turned_all d vs a = all-reverse (λ v. length v ≡ d) (negated vs) (negated_all d vs a)
 
 pub turned_simplex : (d : ℕ) (vs : List (List ℤ)) → IsSimplex d vs → IsSimplex d (turned_round vs)
 turned_simplex d vs s = record {
@@ -155,25 +137,25 @@ turned_simplex d vs s = record {
   where
     independent : (b : List ℤ) → length b ≡ length vs → total b ≡ pos 0 → combine b (turned_round vs) ≡ zeros d → b ≡ zeros (length (turned_round vs))
     independent b lb sum none =
-        let l1 : length (combine (backward b) vs) ≡ d = length-combine d (backward b) vs s.points (length-backward b ∙ lb) (omega (arith, s.count)) in
-        let at : (u : List ℤ) → dot u (combine (backward b) vs) ≡ dot u (zeros d) = λ u.
-        let e : negsuc 0 *ℤ dot u (combine (backward b) vs) ≡ dot u (zeros d) = sym (turned_linear u b vs lb) ∙ ap (dot u) none in
+        let l1 : length (combine (reverse b) vs) ≡ d = length-combine d (reverse b) vs s.points (length-reverse b ∙ lb) (omega (arith, s.count)) in
+        let at : (u : List ℤ) → dot u (combine (reverse b) vs) ≡ dot u (zeros d) = λ u.
+        let e : negsuc 0 *ℤ dot u (combine (reverse b) vs) ≡ dot u (zeros d) = sym (turned_linear u b vs lb) ∙ ap (dot u) none in
         let z : dot u (zeros d) ≡ pos 0 = dot_comm u (zeros d) ∙ zeros-dot d u in
         omega (arith, ints, e, z)
         in
-        let e : backward b ≡ zeros (length vs) = s.independent (backward b) (length-backward b ∙ lb) (total-backward b ∙ sum) (same_from_dots (combine (backward b) vs) (zeros d) (l1 ∙ sym (length-zeros d)) at) in
-        sym (backward-backward b) ∙ ap backward e ∙ backward-zeros (length vs) ∙ ap zeros (sym (length-turned vs))
+        let e : reverse b ≡ zeros (length vs) = s.independent (reverse b) (length-reverse b ∙ lb) (total-reverse b ∙ sum) (same_from_dots (combine (reverse b) vs) (zeros d) (l1 ∙ sym (length-zeros d)) at) in
+        sym (reverse-reverse b) ∙ ap reverse e ∙ reverse-zeros (length vs) ∙ ap zeros (sym (length-turned vs))
 
-turned_expression_back : (d : ℕ) (vs : List (List ℤ)) (x : List ℤ) (c : ℤ) (b : List ℤ) → IsSimplex d vs → length x ≡ d → IsExpression (turned_round vs) x c b → IsExpression vs (scale (negsuc 0) x) c (backward b)
+turned_expression_back : (d : ℕ) (vs : List (List ℤ)) (x : List ℤ) (c : ℤ) (b : List ℤ) → IsSimplex d vs → length x ≡ d → IsExpression (turned_round vs) x c b → IsExpression vs (scale (negsuc 0) x) c (reverse b)
 turned_expression_back d vs x c b s lx e =
     let lb : length b ≡ length vs = e.one_each ∙ length-turned vs in
-    let l1 : length (combine (backward b) vs) ≡ d = length-combine d (backward b) vs s.points (length-backward b ∙ lb) (omega (arith, s.count)) in
+    let l1 : length (combine (reverse b) vs) ≡ d = length-combine d (reverse b) vs s.points (length-reverse b ∙ lb) (omega (arith, s.count)) in
     record {
       positive = e.positive;
-      one_each = length-backward b ∙ lb;
-      point = same_from_dots (combine (backward b) vs) (scale c (scale (negsuc 0) x)) (l1 ∙ sym lx ∙ sym (length-scale (negsuc 0) x) ∙ sym (length-scale c (scale (negsuc 0) x)))
-          (λ u. end c (dot u x) (dot u (combine (backward b) vs)) (sym (turned_linear u b vs lb) ∙ ap (dot u) e.point ∙ dot-scale u c x) ∙ ap (λ n. c *ℤ n) (sym (dot-scale u (negsuc 0) x)) ∙ sym (dot-scale u c (scale (negsuc 0) x)));
-      sum = total-backward b ∙ e.sum;
+      one_each = length-reverse b ∙ lb;
+      point = same_from_dots (combine (reverse b) vs) (scale c (scale (negsuc 0) x)) (l1 ∙ sym lx ∙ sym (length-scale (negsuc 0) x) ∙ sym (length-scale c (scale (negsuc 0) x)))
+          (λ u. end c (dot u x) (dot u (combine (reverse b) vs)) (sym (turned_linear u b vs lb) ∙ ap (dot u) e.point ∙ dot-scale u c x) ∙ ap (λ n. c *ℤ n) (sym (dot-scale u (negsuc 0) x)) ∙ sym (dot-scale u c (scale (negsuc 0) x)));
+      sum = total-reverse b ∙ e.sum;
     }
   where
     end : (c x y : ℤ) → negsuc 0 *ℤ y ≡ c *ℤ x → y ≡ c *ℤ (negsuc 0 *ℤ x)
@@ -191,13 +173,13 @@ negated_has (v ∷ vs) x c =
 
 pub turned_empty : (d : ℕ) (q : List ℤ) (vs : List (List ℤ)) → IsSimplex d vs → IsStrictlyEmpty d q vs → IsStrictlyEmpty d q (turned_round vs)
 turned_empty d q vs s e = record {
-  outside = λ x c b lx h. subst (λ (n : ℤ). pos 0 ≤ℤ n) (sym (same x c b lx h)) (e.outside (scale (negsuc 0) x) c (backward b) (length-scale (negsuc 0) x ∙ lx) (turned_expression_back d vs x c b s lx h));
+  outside = λ x c b lx h. subst (λ (n : ℤ). pos 0 ≤ℤ n) (sym (same x c b lx h)) (e.outside (scale (negsuc 0) x) c (reverse b) (length-scale (negsuc 0) x ∙ lx) (turned_expression_back d vs x c b s lx h));
   touches = λ x c b lx h z.
-      let m : Contains vs (scale (negsuc 0) x) = e.touches (scale (negsuc 0) x) c (backward b) (length-scale (negsuc 0) x ∙ lx) (turned_expression_back d vs x c b s lx h) (sym (same x c b lx h) ∙ z) in
-      backward_has (negated vs) x (subst (λ (w : List ℤ). Contains (negated vs) w) (twice_negative x) (negated_has vs (scale (negsuc 0) x) m));
+      let m : Contains vs (scale (negsuc 0) x) = e.touches (scale (negsuc 0) x) c (reverse b) (length-scale (negsuc 0) x ∙ lx) (turned_expression_back d vs x c b s lx h) (sym (same x c b lx h) ∙ z) in
+      reverse_has (negated vs) x (subst (λ (w : List ℤ). Contains (negated vs) w) (twice_negative x) (negated_has vs (scale (negsuc 0) x) m));
 }
   where
-    same : (x : List ℤ) (c : ℤ) (b : List ℤ) → length x ≡ d → IsExpression (turned_round vs) x c b → excess q (turned_round vs) x c b ≡ excess q vs (scale (negsuc 0) x) c (backward b)
+    same : (x : List ℤ) (c : ℤ) (b : List ℤ) → length x ≡ d → IsExpression (turned_round vs) x c b → excess q (turned_round vs) x c b ≡ excess q vs (scale (negsuc 0) x) c (reverse b)
     same x c b lx h = ap₂ (λ (m n : ℤ). c *ℤ m -ℤ n) (sym (value-negative q x)) (turned_value q b vs (h.one_each ∙ length-turned vs))
 
 -- ---- they ascend
@@ -229,7 +211,7 @@ pub turned_ascending : (d : ℕ) (vs : List (List ℤ)) → AllOfDimension d vs 
 unfolding IsStrictlySortedBy
 turned_ascending d [] all s = tt
 turned_ascending d (v ∷ vs) all s =
-    sorted_last (turned_round vs) (scale (negsuc 0) v) (turned_ascending d vs all.1 s.1) (all-backward (λ z. number_list_cmp z (scale (negsuc 0) v) ≡ Less) (negated vs) (below_turned d v vs all.0 all.1 s.0))
+    subst (IsStrictlySortedBy number_list_cmp) (sym (reverse_more (scale (negsuc 0) v) (negated vs))) (sorted_last (turned_round vs) (scale (negsuc 0) v) (turned_ascending d vs all.1 s.1) (all-reverse (λ z. number_list_cmp z (scale (negsuc 0) v) ≡ Less) (negated vs) (below_turned d v vs all.0 all.1 s.0)))
 
 -- ---- the class of a set of points is unique
 
@@ -251,42 +233,87 @@ one_class d ps s s' h k =
 
 -- ---- the negative of a class
 
-abbrev pub negative_class : List (List ℤ) → List (List ℤ)
-negative_class s = translate (scale (negsuc 0) (get_or (turned_round s) 0 [])) (turned_round s)
+abbrev last_of : List (List ℤ) → List ℤ
+last_of s = get_or s (length s - 1) []
 
-pub negative_is_class : (d : ℕ) (s : List (List ℤ)) → IsClass d s → IsClass d (negative_class s)
+-- the last point takes the first of the points turned round to 0
+first_turned : (s : List (List ℤ)) → 0 < length s → last_of s ≡ scale (negsuc 0) (get_or (turned_round s) 0 [])
+first_turned s some =
+    let n : length (negated s) ≡ length s = length-map_vectors (scale (negsuc 0)) s in
+    let i : length (negated s) - 1 - 0 ≡ length s - 1 = omega (arith, n) in
+    let e : get_or (turned_round s) 0 [] ≡ scale (negsuc 0) (get_or s (length s - 1) []) =
+    get_or-reverse (negated s) 0 [] (omega (arith, n, some)) ∙ ap (λ (k : ℕ). get_or (negated s) k []) i ∙ get_or-map (scale (negsuc 0)) s (length s - 1) [] [] (omega (arith, some)) in
+    sym (twice_negative (get_or s (length s - 1) [])) ∙ ap (scale (negsuc 0)) (sym e)
+
+last_dimension : (d : ℕ) (s : List (List ℤ)) → IsSimplex d s → length (last_of s) ≡ d
+last_dimension d s h = get_dimension d s (length s - 1) h.points (omega (arith, h.count))
+
+pub negative_is_class : (d : ℕ) (s : List (List ℤ)) → IsClass d s → IsClass d (negative s)
 negative_is_class d s c =
     let t = turned_simplex d s c.simplex in
     let w : List ℤ = get_or (turned_round s) 0 [] in
     let lw : length w ≡ d = get_dimension d (turned_round s) 0 t.points (omega (arith, t.count)) in
-    let lp : length (scale (negsuc 0) w) ≡ d = length-scale (negsuc 0) w ∙ lw in
+    let p : List ℤ = last_of s in
+    let lp : length p ≡ d = last_dimension d s c.simplex in
     record {
-      simplex = simplex_moved d (turned_round s) (scale (negsuc 0) w) lp t;
-      ascending = ascending_translate d (scale (negsuc 0) w) (turned_round s) lp t.points (turned_ascending d s c.simplex.points c.ascending);
-      first = first_of_translate (scale (negsuc 0) w) (turned_round s) (omega (arith, t.count)) ∙ minus_itself d w lw;
+      simplex = simplex_moved d (turned_round s) p lp t;
+      ascending = ascending_translate d p (turned_round s) lp t.points (turned_ascending d s c.simplex.points c.ascending);
+      first = first_of_translate p (turned_round s) (omega (arith, t.count)) ∙ ap (plus w) (first_turned s (omega (arith, c.simplex.count))) ∙ minus_itself d w lw;
     }
 
-pub negative_of : (d : ℕ) (s : List (List ℤ)) → IsClass d s → IsClassOf d (negated s) (negative_class s)
+pub negative_of : (d : ℕ) (s : List (List ℤ)) → IsClass d s → IsClassOf d (negated s) (negative s)
 negative_of d s c =
     let t = turned_simplex d s c.simplex in
-    let w : List ℤ = get_or (turned_round s) 0 [] in
-    let lw : length w ≡ d = get_dimension d (turned_round s) 0 t.points (omega (arith, t.count)) in
-    let p : List ℤ = scale (negsuc 0) w in
-    let lp : length p ≡ d = length-scale (negsuc 0) w ∙ lw in
-    let back : translate (scale (negsuc 0) p) (negative_class s) ≡ turned_round s = translate-back d (turned_round s) p t.points lp in
+    let p : List ℤ = last_of s in
+    let lp : length p ≡ d = last_dimension d s c.simplex in
+    let back : translate (scale (negsuc 0) p) (negative s) ≡ turned_round s = translate-back d (turned_round s) p t.points lp in
     record {
       shift = scale (negsuc 0) p;
       dimension = length-scale (negsuc 0) p ∙ lp;
       «class» = negative_is_class d s c;
-      same = λ x. (λ m. subst (λ (l : List (List ℤ)). Contains l x) (sym back) (backward_has (negated s) x m), λ m. backward_from (negated s) x (subst (λ (l : List (List ℤ)). Contains l x) back m));
+      same = λ x. (λ m. subst (λ (l : List (List ℤ)). Contains l x) (sym back) (reverse_has (negated s) x m), λ m. reverse_from (negated s) x (subst (λ (l : List (List ℤ)). Contains l x) back m));
     }
 
-pub negative_empty : (d : ℕ) (q : List ℤ) (s : List (List ℤ)) → IsClass d s → IsStrictlyEmpty d q s → IsStrictlyEmpty d q (negative_class s)
+pub negative_empty : (d : ℕ) (q : List ℤ) (s : List (List ℤ)) → IsClass d s → IsStrictlyEmpty d q s → IsStrictlyEmpty d q (negative s)
 negative_empty d q s c e =
-    let t = turned_simplex d s c.simplex in
-    let w : List ℤ = get_or (turned_round s) 0 [] in
-    let lw : length w ≡ d = get_dimension d (turned_round s) 0 t.points (omega (arith, t.count)) in
-    empty_moved d q (turned_round s) (scale (negsuc 0) w) t (length-scale (negsuc 0) w ∙ lw) (turned_empty d q s c.simplex e)
+    empty_moved d q (turned_round s) (last_of s) (turned_simplex d s c.simplex) (last_dimension d s c.simplex) (turned_empty d q s c.simplex e)
+
+-- ---- the negative of the negative
+
+negated-translate : (p : List ℤ) (vs : List (List ℤ)) → negated (translate p vs) ≡ translate (scale (negsuc 0) p) (negated vs)
+negated-translate p [] = refl
+negated-translate p (v ∷ vs) = ap₂ (λ (x : List ℤ) (l : List (List ℤ)). x ∷ l) (scale-plus (negsuc 0) v p) (negated-translate p vs)
+
+negated-negated : (vs : List (List ℤ)) → negated (negated vs) ≡ vs
+negated-negated [] = refl
+negated-negated (v ∷ vs) = ap₂ (λ (x : List ℤ) (l : List (List ℤ)). x ∷ l) (twice_negative v) (negated-negated vs)
+
+turned-moved : (p : List ℤ) (s : List (List ℤ)) → turned_round (translate p (turned_round s)) ≡ translate (scale (negsuc 0) p) s
+turned-moved p s =
+    let e : reverse (negated (turned_round s)) ≡ s = ap reverse (map-reverse (scale (negsuc 0)) (negated s) ∙ ap reverse (negated-negated s)) ∙ reverse-reverse s in
+    ap reverse (negated-translate p (turned_round s)) ∙ sym (map-reverse (λ v. plus v (scale (negsuc 0) p)) (negated (turned_round s))) ∙ ap (translate (scale (negsuc 0) p)) e
+
+-- the last point stays where it is
+last_stays : (d : ℕ) (s : List (List ℤ)) → IsClass d s → last_of (negative s) ≡ last_of s
+last_stays d s c =
+    let p : List ℤ = get_or s (length s - 1) [] in
+    let lp : length p ≡ d = last_dimension d s c.simplex in
+    let n : length (turned_round s) ≡ length s = length-turned s in
+    let m : length (negative s) ≡ length s = length-map_vectors (λ v. plus v p) (turned_round s) ∙ n in
+    let k : length (negated s) - 1 - (length s - 1) ≡ 0 = (let l = length-map_vectors (scale (negsuc 0)) s in omega (arith, l)) in
+    let before : get_or (turned_round s) (length s - 1) [] ≡ scale (negsuc 0) (zeros d) =
+    get_or-reverse (negated s) (length s - 1) [] (let l = length-map_vectors (scale (negsuc 0)) s in omega (arith, l, c.simplex.count)) ∙ ap (λ (i : ℕ). get_or (negated s) i []) k ∙ get_or-map (scale (negsuc 0)) s 0 [] [] (omega (arith, c.simplex.count)) ∙ ap (scale (negsuc 0)) c.first in
+    let e : get_or (negative s) (length s - 1) [] ≡ p =
+    get_or-map (λ v. plus v p) (turned_round s) (length s - 1) [] [] (omega (arith, n, c.simplex.count)) ∙ ap (λ (v : List ℤ). plus v p) (before ∙ scale-zeros (negsuc 0) d) ∙ zeros-plus d p lp in
+    ap (λ (i : ℕ). get_or (negative s) (i - 1) []) m ∙ e
+
+pub negative-negative : (d : ℕ) (s : List (List ℤ)) → IsClass d s → negative (negative s) ≡ s
+negative-negative d s c =
+    let p : List ℤ = get_or s (length s - 1) [] in
+    let lp : length p ≡ d = last_dimension d s c.simplex in
+    ap₂ translate (last_stays d s c) (turned-moved p s)
+    ∙ ap (λ (x : List ℤ). translate x (translate (scale (negsuc 0) p) s)) (sym (twice_negative p))
+    ∙ translate-back d s (scale (negsuc 0) p) c.simplex.points (length-scale (negsuc 0) p ∙ lp)
 
 -- ---- no class is its own negative
 
@@ -340,5 +367,5 @@ pub negatives_are_members : (d : ℕ) (q : List ℤ) (t : List (List (List ℤ))
 negatives_are_members d q t s h del m =
     let c = (del.members s).0 m in
     let own = negative_of d s c.0 in
-    let member : Contains t (negative_class s) = (del.members (negative_class s)).1 (negative_is_class d s c.0, negative_empty d q s c.0 c.1) in
-    ((negative_class s, own), λ s' k. (subst (λ (r : List (List ℤ)). Contains t r) (one_class d (negated s) (negative_class s) s' own k) member, λ e. not_own_negative d s h (subst (λ (r : List (List ℤ)). IsClassOf d (negated s) r) e k)))
+    let member : Contains t (negative s) = (del.members (negative s)).1 (negative_is_class d s c.0, negative_empty d q s c.0 c.1) in
+    ((negative s, own), λ s' k. (subst (λ (r : List (List ℤ)). Contains t r) (one_class d (negated s) (negative s) s' own k) member, λ e. not_own_negative d s h (subst (λ (r : List (List ℤ)). IsClassOf d (negated s) r) e k)))

@@ -4,7 +4,7 @@
 #![tactic(auto)]
 
 ghost use Rattle.lt_geometry.specs.Principal.{NormalsSay, PrincipalExists, PrincipalCount};
-ghost use Rattle.lt_laws.specs.Negatives.{NegativesAreMembers};
+ghost use Rattle.lt_laws.specs.Negatives.{NegativesAreMembers, NegativesAreClasses, TriangulationsAreHalved};
 ghost use Rattle.lt_laws.specs.Facets.{RegulatorsAreListed, FacetsBoundTheCone, FacetsSuffice, ReachedFacetsSuffice};
 ghost use Rattle.lt_laws.specs.Carried.{RegulatorsAreCarried, FacetsAreCarried};
 ghost use Rattle.lt_laws.specs.Circumradii.{CentresExist, CentresAreUnique, BallsAreEmpty};
@@ -12,9 +12,12 @@ ghost use Rattle.lt_laws.specs.Covering.{CentresMoveAlong, EachPointIsCovered, G
 ghost use Rattle.lt_laws.specs.Edges.{ParitiesHaveOneEdge, ShortestAreEdges, EdgesAreParities, EdgesReachBelow, LeastEdgesAreShortest, EdgesAreListed};
 ghost use Rattle.lt_laws.specs.Sections.{SectionFacetsAreLiveOrDead, OneWallTells};
 
-/// The negative of a member is a member, and no member is its own negative, from dimension 2 on.
+/// The negative of a member is a member, and no member is its own negative, from dimension 2 on. So half of the members, of each
+/// pair the one that comes first, tell all of them.
 pub fn negatives_are_members()
-    ensures { NegativesAreMembers }
+    ensures members { NegativesAreMembers }
+    ensures classes { NegativesAreClasses }
+    ensures halved { TriangulationsAreHalved }
 {}
 
 /// Each parity but that of 0 has exactly one edge, which with its negative is the only shortest of the parity.

@@ -18,3 +18,4 @@ pub mod Differences
 pub mod Cramer
 pub mod Exchange
 pub mod Hadamard
+pub mod Filtered

@@ -3,6 +3,7 @@ pub mod Padded
 pub mod Forms
 pub mod Order
 pub mod Simplices
+pub mod Negatives
 pub mod Facets
 pub mod Triangulations
 pub mod Walls

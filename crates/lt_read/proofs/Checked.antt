@@ -32,14 +32,14 @@ use Rattle.lt_read.proofs.Right.{right_parts}
 use Rattle.lt_read.proofs.ReadAtlases.{atlas_is}
 
 -- all entries of what was parsed are built
-pub record AreAllBuilt (p : Parsed) (xs : List Entry) : Type 0 where
+pub record AreAllBuilt (version : ℕ) (p : Parsed) (xs : List Entry) : Type 0 where
   pub fits : TextFits (text_of p)
   pub paired : length p.entries.items ≡ length p.marks.items
   pub count : length xs ≡ length p.entries.items
-  pub built : AreBuilt p.d (text_of p).entries (map entry_of xs)
+  pub built : AreBuilt version p.d (text_of p).entries (map entry_of xs)
   pub sound : AreSound p.d (map entry_of xs)
 
-module _ (p : Parsed) (xs : List Entry) (h : AreAllBuilt p xs) where
+module _ (version : ℕ) (p : Parsed) (xs : List Entry) (h : AreAllBuilt version p xs) where
   abbrev es : List text.Entry
   es = (text_of p).entries
 
@@ -70,18 +70,18 @@ module _ (p : Parsed) (xs : List Entry) (h : AreAllBuilt p xs) where
   -- ---- crosses
 
   pub each : (k : ℕ) → k < length p.marks.items → length (get_or mss k []) ≡ length (model.facets (model.entry_at bs k))
-  each k l = one_each p.d es bs mss h.fits.1.1 h.built marks whole lists k (omega (arith, l, long))
+  each k l = one_each version p.d es bs mss h.fits.1.1 h.built marks whole lists k (omega (arith, l, long))
 
   pub square : (q : ℕ × ℕ) → IsSquareMark p.d (spelt_at mss q)
-  square = all_square p.d es bs mss h.fits.1.1 h.built marks whole lists
+  square = all_square version p.d es bs mss h.fits.1.1 h.built marks whole lists
 
   pub few_facets : (q : ℕ × ℕ) → IsFirstWrong p.d bs mss q → q.1 < 2 ^ 29
   few_facets q w =
       let f = w.facet in
-      let few = few_marks p.d es bs mss h.fits.1.1 h.built marks whole lists q.0 w.entry in
+      let few = few_marks version p.d es bs mss h.fits.1.1 h.built marks whole lists q.0 w.entry in
       omega (arith, f, few)
 
-  pub refused_cross : (k f : ℕ) → IsFirstWrong p.d bs mss (k, f) → IsRefused p.d es (BadCross k f)
+  pub refused_cross : (k f : ℕ) → IsFirstWrong p.d bs mss (k, f) → IsRefused version p.d es (BadCross k f)
   refused_cross = crossed.refused_cross p.d es bs mss h.built marks whole lists
 
   -- ---- fingerprints
@@ -100,13 +100,13 @@ module _ (p : Parsed) (xs : List Entry) (h : AreAllBuilt p xs) where
   -- ---- where all crosses are right
 
   module _ (right : AreAllRight p.d bs mss) where
-    pub refused_twin : (i j : ℕ) (u : List ℤ) → IsFirstTwin p.d bs i j u → IsRefused p.d es (Twin i j u)
+    pub refused_twin : (i j : ℕ) (u : List ℤ) → IsFirstTwin p.d bs i j u → IsRefused version p.d es (Twin i j u)
     refused_twin i j u w = paired.refused_twin p.d es bs mss h.built marks h.sound whole i j u (crossed.all_crossed p.d es bs mss h.built marks whole lists right) w
 
     -- and no entry is equivalent to another
     pub right_atlas : ((i : ℕ) → i < length xs → HasNoTwin p.d bs i) → AreRight (IsAcross p.d) p.d bs (map (map kept_mark) mss)
     right_atlas none =
-        right_parts p.d (text_of p) bs mss h.fits (λ i. p.d) h.built h.sound marks whole lists right
+        right_parts version p.d (text_of p) bs mss h.fits (λ i. p.d) h.built h.sound marks whole lists right
         (let m = length-map xs entry_of in λ i l. none i (omega (arith, l, m)))
 
   -- ---- the atlas
@@ -114,7 +114,7 @@ module _ (p : Parsed) (xs : List Entry) (h : AreAllBuilt p xs) where
   pub settled : model.stuck (map (map kept_mark) mss) ≡ 0
   settled = none_stuck mss
 
-  pub read_atlas : (a : model.Atlas) → a ≡ fresh_atlas p.d bs (map (map kept_mark) mss) → IsAtlasOf (text_of p) a
+  pub read_atlas : (a : model.Atlas) → a ≡ fresh_atlas p.d bs (map (map kept_mark) mss) → IsAtlasOf version (text_of p) a
   read_atlas a is =
-      subst (IsAtlasOf (text_of p)) (sym is)
-      (atlas_is (text_of p) bs mss (map (map kept_mark) mss) h.built marks whole (all_read p.d p.entries.items p.marks.items low high h.paired h.fits.1.1))
+      subst (IsAtlasOf version (text_of p)) (sym is)
+      (atlas_is version (text_of p) bs mss (map (map kept_mark) mss) h.built marks whole (all_read p.d p.entries.items p.marks.items low high h.paired h.fits.1.1))

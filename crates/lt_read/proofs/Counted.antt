@@ -28,7 +28,7 @@ square_rows d u low high long = ap (λ n. rows n u) (ap side long ∙ side_of d 
 square_cross : (d : ℕ) (m : Mark) → MarkFits d m → IsSquareMark d m
 square_cross d m h k u e = let c : MarkFits d (cross k u) = subst (MarkFits d) e h in c.1.0
 
-module _ (d : ℕ) (es : List Entry) (bs : List model.Entry) (mss : List (List Mark)) (fits : EntriesFit d 0 es) (built : AreBuilt d es bs) (marks : AreMarks es mss) (whole : length bs ≡ length es) (lists : length mss ≡ length es) where
+module _ (version d : ℕ) (es : List Entry) (bs : List model.Entry) (mss : List (List Mark)) (fits : EntriesFit d 0 es) (built : AreBuilt version d es bs) (marks : AreMarks es mss) (whole : length bs ≡ length es) (lists : length mss ≡ length es) where
   pub fits_at : (k : ℕ) → k < length es → EntryFits d k (entry_at es k)
   fits_at k l = entry_fits d 0 es k k fits l (omega arith)
 
@@ -38,7 +38,7 @@ module _ (d : ℕ) (es : List Entry) (bs : List model.Entry) (mss : List (List M
       let there : k < length bs = omega (arith, here, whole) in
       let count = (fits_at k here).1.1.1.0 in
       let same : length (entry_at es k).marks ≡ length (normals_of (entry_at es k)) = omega (arith, count) in
-      ap length (sym (marks k here)) ∙ same ∙ ap length (sym (normals d es bs mss built marks k there))
+      ap length (sym (marks k here)) ∙ same ∙ ap length (sym (normals version d es bs mss built marks k there))
 
   pub mark_fits : (p : ℕ × ℕ) → p.0 < length mss → p.1 < length (get_or mss p.0 []) → MarkFits d (spelt_at mss p)
   mark_fits p l s =

@@ -6,6 +6,7 @@ use Rattle.lt_grammar.specs.Texts.{Text, text}
 use Rattle.lt_grammar.specs.Ranges.{TextFits, IsText}
 use Rattle.lt_grammar.specs.Parsed.{IsTextOf}
 use Rattle.lt_grammar.proofs.Laws.{one_line}
+use Rattle.lt_text.specs.Values.{IsVersion}
 use Rattle.lt_read.specs.Refused.{IsRefused, IsRefusedText, IsFirstRefusal}
 use Rattle.lt_read.specs.Laws.{BytesHaveOneRefusal}
 use Rattle.lt_read.specs.declared.refusals.Refusal.{Refusal}
@@ -13,7 +14,7 @@ use Rattle.lt_read.specs.declared.refusals.Refusal.TheVariants.{TooLong, Syntax,
 use Rattle.lt_read.proofs.OneRefusal.{one_refusal}
 use Rattle.lt_read.proofs.Read.{same_text}
 
-module _ (d : ℕ) (bytes : List ℕ) where
+module _ (version d : ℕ) (known : IsVersion version) (bytes : List ℕ) where
   -- the four kinds of refusals
   record IsLong (r : Refusal) : Type 0 where
     is : r ≡ TooLong
@@ -23,16 +24,16 @@ module _ (d : ℕ) (bytes : List ℕ) where
     line : ℕ
     is : r ≡ Syntax line
     within : length bytes ≤ input_limit d
-    fault : FaultAt (IsText 1) bytes line
+    fault : FaultAt (IsText version) bytes line
 
   record IsOther (r : Refusal) : Type 0 where
     found : ℕ
     is : r ≡ OtherDimension found
     within : length bytes ≤ input_limit d
     other : found ≢ d
-    text_of : IsTextOf 1 bytes found
+    text_of : IsTextOf version bytes found
 
-  kind : (r : Refusal) → IsFirstRefusal d bytes r → IsLong r ⊎ (IsNoText r ⊎ (IsOther r ⊎ IsRefusedText d bytes r))
+  kind : (r : Refusal) → IsFirstRefusal version d bytes r → IsLong r ⊎ (IsNoText r ⊎ (IsOther r ⊎ IsRefusedText version d bytes r))
   kind TooLong h = inl (record { is = refl; above = h })
   kind (Syntax line) h = inr (inl (record { line = line; is = refl; within = h.0; fault = h.1 }))
   kind (OtherDimension found) h = inr (inr (inl (record { found = found; is = refl; within = h.0; other = h.1; text_of = h.2 })))
@@ -44,20 +45,20 @@ module _ (d : ℕ) (bytes : List ℕ) where
   kind (Twin i j u) h = inr (inr (inr h))
 
   -- bytes that are too long have no other refusal
-  short : (r : Refusal) → IsNoText r ⊎ (IsOther r ⊎ IsRefusedText d bytes r) → length bytes ≤ input_limit d
+  short : (r : Refusal) → IsNoText r ⊎ (IsOther r ⊎ IsRefusedText version d bytes r) → length bytes ≤ input_limit d
   short r (inl x) = x.within
   short r (inr (inl x)) = x.within
   short r (inr (inr x)) = x.0
 
   -- nor has what is no text
-  is_text : (r : Refusal) → IsOther r ⊎ IsRefusedText d bytes r → IsText 1 bytes
+  is_text : (r : Refusal) → IsOther r ⊎ IsRefusedText version d bytes r → IsText version bytes
   is_text r (inl x) = let t = x.text_of in (t.0, t.1, t.3)
   is_text r (inr x) = let t = x.1 in (t.0, t.1, t.3)
 
-  found_is : (t s : Text) → TextFits t → TextFits s → bytes ≡ text 1 t → bytes ≡ text 1 s → t.dimension ≡ s.dimension
-  found_is t s p q e f = ap (λ (z : Text). z.dimension) (same_text t s p q (sym e ∙ f))
+  found_is : (t s : Text) → TextFits t → TextFits s → bytes ≡ text version t → bytes ≡ text version s → t.dimension ≡ s.dimension
+  found_is t s p q e f = ap (λ (z : Text). z.dimension) (same_text version known t s p q (sym e ∙ f))
 
-  other_or_refused : (r s : Refusal) → IsOther r → IsRefusedText d bytes s → ⊥
+  other_or_refused : (r s : Refusal) → IsOther r → IsRefusedText version d bytes s → ⊥
   other_or_refused r s x (l, (t, p, e, is, h)) = let o = x.text_of in x.other (sym o.2 ∙ found_is o.0 t o.1 p o.3 is ∙ e)
 
   one_other : (r s : Refusal) → IsOther r → IsOther s → r ≡ s
@@ -66,18 +67,18 @@ module _ (d : ℕ) (bytes : List ℕ) where
       let b = y.text_of in
       x.is ∙ ap OtherDimension (sym a.2 ∙ found_is a.0 b.0 a.1 b.1 a.3 b.3 ∙ b.2) ∙ sym y.is
 
-  one_late : (r s : Refusal) → IsRefusedText d bytes r → IsRefusedText d bytes s → r ≡ s
+  one_late : (r s : Refusal) → IsRefusedText version d bytes r → IsRefusedText version d bytes s → r ≡ s
   one_late r s (l, (t, p, e, is, h)) (m, (u, q, f, are, g)) =
-      let same : u ≡ t = same_text u t q p (sym are ∙ is) in
+      let same : u ≡ t = same_text version known u t q p (sym are ∙ is) in
       let low = p.0.0 in
       let some = p.1.0.0 in
-      one_refusal d t.entries (omega (arith, low, e)) (omega (arith, some)) r s h (subst (λ (z : Text). IsRefused d z.entries s) same g)
+      one_refusal version d t.entries (omega (arith, low, e)) (omega (arith, some)) r s h (subst (λ (z : Text). IsRefused version d z.entries s) same g)
 
-  one : (r s : Refusal) → IsLong r ⊎ (IsNoText r ⊎ (IsOther r ⊎ IsRefusedText d bytes r)) → IsLong s ⊎ (IsNoText s ⊎ (IsOther s ⊎ IsRefusedText d bytes s)) → r ≡ s
+  one : (r s : Refusal) → IsLong r ⊎ (IsNoText r ⊎ (IsOther r ⊎ IsRefusedText version d bytes r)) → IsLong s ⊎ (IsNoText s ⊎ (IsOther s ⊎ IsRefusedText version d bytes s)) → r ≡ s
   one r s (inl x) (inl y) = x.is ∙ sym y.is
   one r s (inl x) (inr y) = let a = x.above in let b = short s y in absurd (omega (arith, a, b))
   one r s (inr x) (inl y) = let a = y.above in let b = short r x in absurd (omega (arith, a, b))
-  one r s (inr (inl x)) (inr (inl y)) = x.is ∙ ap Syntax (one_line 1 bytes x.line y.line x.fault y.fault) ∙ sym y.is
+  one r s (inr (inl x)) (inr (inl y)) = x.is ∙ ap Syntax (one_line version bytes x.line y.line x.fault y.fault) ∙ sym y.is
   one r s (inr (inl x)) (inr (inr y)) = absurd (x.fault.outside (is_text s y))
   one r s (inr (inr x)) (inr (inl y)) = absurd (y.fault.outside (is_text r x))
   one r s (inr (inr (inl x))) (inr (inr (inl y))) = one_other r s x y
@@ -86,4 +87,5 @@ module _ (d : ℕ) (bytes : List ℕ) where
   one r s (inr (inr (inr x))) (inr (inr (inr y))) = one_late r s x y
 
 pub one_refusal_of_bytes : BytesHaveOneRefusal
-one_refusal_of_bytes d bytes r s x y = one d bytes r s (kind d bytes r x) (kind d bytes s y)
+one_refusal_of_bytes version d bytes r s known x y =
+    one version d known bytes r s (kind version d known bytes r x) (kind version d known bytes s y)

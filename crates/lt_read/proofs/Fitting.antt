@@ -59,10 +59,10 @@ pub all_read : {Z : Type 0} (d : ℕ) (raws : List RawEntry) (mss : List (Vec Ra
 all_read d raws mss low high same fits = ap (map (map kept_mark)) (spelt_rows raws mss same) ∙ rows_read d 0 (entries_of raws mss) low high fits
 
 -- the places of marks are below 2^29
-pub few_marks : (d : ℕ) (es : List Entry) (bs : List model.Entry) (mss : List (List Mark)) → EntriesFit d 0 es → AreBuilt d es bs → AreMarks es mss → length bs ≡ length es → length mss ≡ length es → (k : ℕ) → k < length mss → length (get_or mss k []) ≤ 2 ^ 29
-few_marks d es bs mss fits built marks whole lists k l =
+pub few_marks : (version d : ℕ) (es : List Entry) (bs : List model.Entry) (mss : List (List Mark)) → EntriesFit d 0 es → AreBuilt version d es bs → AreMarks es mss → length bs ≡ length es → length mss ≡ length es → (k : ℕ) → k < length mss → length (get_or mss k []) ≤ 2 ^ 29
+few_marks version d es bs mss fits built marks whole lists k l =
     let here : k < length es = omega (arith, l, lists) in
-    let h = (fits_at d es bs mss fits built marks whole lists k here).1 in
+    let h = (fits_at version d es bs mss fits built marks whole lists k here).1 in
     let same = ap length (sym (marks k here)) in
     let count = h.1.1.0.1 in
     let most = facets_most (entry_at es k).cone.rows in

@@ -40,17 +40,17 @@ places_cases p q =
 
 -- ---- entries at which reading stops
 
-listed_origin : (d : ℕ) (es : List Entry) (ts : List Classes) (k : ℕ) (t : Classes) → k ≢ 0 → IsListed d es ts k t → HasOrigin d es k
-listed_origin d es ts zero t ne h = absurd (ne refl)
-listed_origin d es ts (suc k) t ne h = h.0
+listed_origin : (version d : ℕ) (es : List Entry) (ts : List Classes) (k : ℕ) (t : Classes) → k ≢ 0 → IsListed version d es ts k t → HasOrigin d es k
+listed_origin version d es ts zero t ne h = absurd (ne refl)
+listed_origin version d es ts (suc k) t ne h = h.0
 
-listed_form : (d : ℕ) (es : List Entry) (ts : List Classes) (k : ℕ) (t : Classes) → 2 ≤ d → IsListed d es ts k t → HasForm d t
-listed_form d es ts zero t low h = (across_laws d low).principal t h.0
-listed_form d es ts (suc k) t low h = across_form d _ t _ h.1
+listed_form : (version d : ℕ) (es : List Entry) (ts : List Classes) (k : ℕ) (t : Classes) → 2 ≤ d → IsListed version d es ts k t → HasForm d t
+listed_form version d es ts zero t low h = (across_laws d low).principal t h.0
+listed_form version d es ts (suc k) t low h = across_form d _ t _ h.1
 
-module _ (d : ℕ) (es : List Entry) (low : 2 ≤ d) (some : 0 < length es) where
+module _ (version d : ℕ) (es : List Entry) (low : 2 ≤ d) (some : 0 < length es) where
   abbrev Passed : ℕ → Type 0
-  Passed n = (ts : List Classes) × HavePassed d es ts n
+  Passed n = (ts : List Classes) × HavePassed version d es ts n
 
   -- the entries before have passed, and this one doesn't
   record Stops (k : ℕ) : Type 0 where
@@ -61,7 +61,7 @@ module _ (d : ℕ) (es : List Entry) (low : 2 ≤ d) (some : 0 < length es) wher
   not_farther : (k n : ℕ) → Stops k → Passed n → n ≤ k
   not_farther k n s (ts, h) =
       elim (cases_lt k n) [
-        | inl l ↦ absurd (s.here (_, front_passed d es ts (suc k) n (omega (arith, l)) h))
+        | inl l ↦ absurd (s.here (_, front_passed version d es ts (suc k) n (omega (arith, l)) h))
         | inr le ↦ le
       ]
 
@@ -72,8 +72,8 @@ module _ (d : ℕ) (es : List Entry) (low : 2 ≤ d) (some : 0 < length es) wher
   none_stops k s p = let a = not_farther k (length es) s p in let b = s.within in omega (arith, a, b)
 
   -- what is listed after different ones that have passed is the same
-  listed_on : (k : ℕ) (us ts : List Classes) (t : Classes) → HavePassed d es us k → HavePassed d es ts (suc k) → IsListed d es us k t → t ≡ at ts k
-  listed_on k us ts t g h x = one_listed d es us ts k t (at ts k) low (same_front d es us ts k (suc k) low (omega arith) g h) x (h.listed k (omega arith))
+  listed_on : (k : ℕ) (us ts : List Classes) (t : Classes) → HavePassed version d es us k → HavePassed version d es ts (suc k) → IsListed version d es us k t → t ≡ at ts k
+  listed_on k us ts t g h x = one_listed version d es us ts k t (at ts k) low (same_front version d es us ts k (suc k) low (omega arith) g h) x (h.listed k (omega arith))
 
   -- the entry at which a refusal of an entry stops
   abbrev entry_of : Refusal → ℕ
@@ -90,7 +90,7 @@ module _ (d : ℕ) (es : List Entry) (low : 2 ≤ d) (some : 0 < length es) wher
   IsOfEntry (BadCone k row) = Unit {0}
   IsOfEntry _ = ⊥
 
-  stops : (r : Refusal) → IsOfEntry r → IsRefused d es r → Stops (entry_of r)
+  stops : (r : Refusal) → IsOfEntry r → IsRefused version d es r → Stops (entry_of r)
   stops NotPrincipal o x = record {
     before = ([], record { long = refl; listed = λ k l. absurd (omega (arith, l)); cones = λ k l. absurd (omega (arith, l)) });
     within = some;
@@ -99,12 +99,12 @@ module _ (d : ℕ) (es : List Entry) (low : 2 ≤ d) (some : 0 < length es) wher
   stops (BadOrigin k) o (us, g, l, ne, none) = record {
     before = (us, g);
     within = l;
-    here = λ p. none (listed_origin d es p.0 k (at p.0 k) ne (p.1.listed k (omega arith)));
+    here = λ p. none (listed_origin version d es p.0 k (at p.0 k) ne (p.1.listed k (omega arith)));
   }
   stops (BadSimplices k) o (us, g, l, origin, none) = record {
     before = (us, g);
     within = l;
-    here = λ p. none (at p.0 k) (listed_same d es p.0 us k (at p.0 k) (λ i s. sym (same_front d es us p.0 k (suc k) low (omega arith) g p.1 i s)) (p.1.listed k (omega arith)));
+    here = λ p. none (at p.0 k) (listed_same version d es p.0 us k (at p.0 k) (λ i s. sym (same_front version d es us p.0 k (suc k) low (omega arith) g p.1 i s)) (p.1.listed k (omega arith)));
   }
   stops (BadCone k row) o (us, g, l, (t, x, f)) = record {
     before = (us, g);
@@ -122,32 +122,32 @@ module _ (d : ℕ) (es : List Entry) (low : 2 ≤ d) (some : 0 < length es) wher
 
   -- ---- two refusals of one entry
 
-  principal_listed : (k : ℕ) (us : List Classes) (t : Classes) → 0 ≡ k → IsRefused d es NotPrincipal → IsListed d es us k t → ⊥
+  principal_listed : (k : ℕ) (us : List Classes) (t : Classes) → 0 ≡ k → IsRefused version d es NotPrincipal → IsListed version d es us k t → ⊥
   principal_listed zero us t e x y = x t y
   principal_listed (suc k) us t e x y = absurd (omega (arith, e))
 
   first_has_none : (k : ℕ) → 0 ≡ k → HasOrigin d es k → ⊥
   first_has_none k e o = let l = o.earlier in absurd (omega (arith, l, e))
 
-  origin_listed : (k l row : ℕ) → k ≡ l → IsRefused d es (BadOrigin k) → IsRefused d es (BadCone l row) → ⊥
-  origin_listed k l row e (us, g, s, ne, none) (ts, h, r, (t, x, f)) = none (subst (HasOrigin d es) (sym e) (listed_origin d es ts l t (λ z. ne (e ∙ z)) x))
+  origin_listed : (k l row : ℕ) → k ≡ l → IsRefused version d es (BadOrigin k) → IsRefused version d es (BadCone l row) → ⊥
+  origin_listed k l row e (us, g, s, ne, none) (ts, h, r, (t, x, f)) = none (subst (HasOrigin d es) (sym e) (listed_origin version d es ts l t (λ z. ne (e ∙ z)) x))
 
-  simplices_listed : (k l row : ℕ) → k ≡ l → IsRefused d es (BadSimplices k) → IsRefused d es (BadCone l row) → ⊥
+  simplices_listed : (k l row : ℕ) → k ≡ l → IsRefused version d es (BadSimplices k) → IsRefused version d es (BadCone l row) → ⊥
   simplices_listed k l row e (us, g, s, o, none) (ts, h, r, (t, x, f)) =
-      let there : IsListed d es ts k t = subst (λ (n : ℕ). IsListed d es ts n t) (sym e) x in
-      let same : ts ≡ us = one_passed d es ts us k low (subst (HavePassed d es ts) (sym e) h) g in
-      none t (subst (λ (z : List Classes). IsListed d es z k t) same there)
+      let there : IsListed version d es ts k t = subst (λ (n : ℕ). IsListed version d es ts n t) (sym e) x in
+      let same : ts ≡ us = one_passed version d es ts us k low (subst (HavePassed version d es ts) (sym e) h) g in
+      none t (subst (λ (z : List Classes). IsListed version d es z k t) same there)
 
-  one_row : (k l m n : ℕ) → k ≡ l → IsRefused d es (BadCone k m) → IsRefused d es (BadCone l n) → m ≡ n
+  one_row : (k l m n : ℕ) → k ≡ l → IsRefused version d es (BadCone k m) → IsRefused version d es (BadCone l n) → m ≡ n
   one_row k l m n e (us, g, s, (t, x, f)) (ts, h, r, (u, y, w)) =
-      let there : IsListed d es ts k u = subst (λ (i : ℕ). IsListed d es ts i u) (sym e) y in
-      let same : us ≡ ts = one_passed d es us ts k low g (subst (HavePassed d es ts) (sym e) h) in
-      let is : t ≡ u = one_listed d es us ts k t u low (λ i z. ap (λ v. at v i) same) x there in
-      let form = listed_form d es us k t low x in
+      let there : IsListed version d es ts k u = subst (λ (i : ℕ). IsListed version d es ts i u) (sym e) y in
+      let same : us ≡ ts = one_passed version d es us ts k low g (subst (HavePassed version d es ts) (sym e) h) in
+      let is : t ≡ u = one_listed version d es us ts k t u low (λ i z. ap (λ v. at v i) same) x there in
+      let form = listed_form version d es us k t low x in
       let ns = has_regulators d form.0 t form.1 in
       one_fault d ns.0 (entry_at es k).cone m n (f ns.0 ns.1) (subst (λ (i : ℕ). IsFault d ns.0 (entry_at es i).cone (Wrong n)) (sym e) (w ns.0 (subst (λ (z : Classes). AreRegulators d z ns.0) is ns.1)))
 
-  one_of_entry : (r s : Refusal) → IsOfEntry r → IsOfEntry s → entry_of r ≡ entry_of s → IsRefused d es r → IsRefused d es s → r ≡ s
+  one_of_entry : (r s : Refusal) → IsOfEntry r → IsOfEntry s → entry_of r ≡ entry_of s → IsRefused version d es r → IsRefused version d es s → r ≡ s
   one_of_entry NotPrincipal NotPrincipal o p e x y = refl
   one_of_entry NotPrincipal (BadOrigin k) o p e x y = absurd (y.3 (sym e))
   one_of_entry NotPrincipal (BadSimplices k) o p e x y = absurd (first_has_none k e y.3)
@@ -172,10 +172,10 @@ module _ (d : ℕ) (es : List Entry) (low : 2 ≤ d) (some : 0 < length es) wher
 
   -- ---- two refusals of the whole
 
-  one_list : (us ts : List Classes) → HavePassed d es us (length es) → HavePassed d es ts (length es) → us ≡ ts
-  one_list us ts g h = one_passed d es us ts (length es) low g h
+  one_list : (us ts : List Classes) → HavePassed version d es us (length es) → HavePassed version d es ts (length es) → us ≡ ts
+  one_list us ts g h = one_passed version d es us ts (length es) low g h
 
-  one_cross : (k f l g : ℕ) → IsRefused d es (BadCross k f) → IsRefused d es (BadCross l g) → BadCross k f ≡ BadCross l g
+  one_cross : (k f l g : ℕ) → IsRefused version d es (BadCross k f) → IsRefused version d es (BadCross l g) → BadCross k f ≡ BadCross l g
   one_cross k f l g (us, a, lk, sf, wrong, before) (ts, b, ll, sg, wrong2, before2) =
       let same = one_list us ts a b in
       elim (places_cases (k, f) (l, g)) [
@@ -184,19 +184,19 @@ module _ (d : ℕ) (es : List Entry) (low : 2 ≤ d) (some : 0 < length es) wher
         | inr (inr c) ↦ absurd (wrong2 (subst (λ (v : List Classes). IsCrossed d es v (l, g)) same (before (l, g) c ll sg)))
       ]
 
-  cross_or_twin : (k f i j : ℕ) (u : List ℤ) → IsRefused d es (BadCross k f) → IsRefused d es (Twin i j u) → ⊥
+  cross_or_twin : (k f i j : ℕ) (u : List ℤ) → IsRefused version d es (BadCross k f) → IsRefused version d es (Twin i j u) → ⊥
   cross_or_twin k f i j u (us, a, lk, sf, wrong, before) (ts, b, crossed, twins, rest, first, long) = wrong (subst (λ (v : List Classes). IsCrossed d es v (k, f)) (sym (one_list us ts a b)) (crossed (k, f) lk sf))
 
   same_twin : (i j k l : ℕ) (u v : List ℤ) → i ≡ k → j ≡ l → u ≡ v → Twin i j u ≡ Twin k l v
   same_twin i j k l u v e f g = ap (λ n. Twin n j u) e ∙ ap (λ n. Twin k n u) f ∙ ap (Twin k l) g
 
-  one_matrix : (ts : List Classes) (i j : ℕ) (u v : List ℤ) → HavePassed d es ts (length es) → j < length es → length u ≡ d * d → length v ≡ d * d → IsFirstMatch d (at ts j) (at ts i) (rows d u) → IsFirstMatch d (at ts j) (at ts i) (rows d v) → u ≡ v
+  one_matrix : (ts : List Classes) (i j : ℕ) (u v : List ℤ) → HavePassed version d es ts (length es) → j < length es → length u ≡ d * d → length v ≡ d * d → IsFirstMatch d (at ts j) (at ts i) (rows d u) → IsFirstMatch d (at ts j) (at ts i) (rows d v) → u ≡ v
   one_matrix ts i j u v h l lu lv x y =
-      let form = listed_form d es ts j (at ts j) low (h.listed j l) in
+      let form = listed_form version d es ts j (at ts j) low (h.listed j l) in
       let simplex = (classes_of_form d (at ts j) form (get_or (at ts j) 0 []) (Contains-get_or (at ts j) 0 [] form.1.occupied)).simplex in
       sym (flat-rows d u lu) ∙ ap flat (one_match d (at ts j) (at ts i) simplex (rows d u) (rows d v) x y) ∙ flat-rows d v lv
 
-  one_twin : (i j k l : ℕ) (u v : List ℤ) → IsRefused d es (Twin i j u) → IsRefused d es (Twin k l v) → Twin i j u ≡ Twin k l v
+  one_twin : (i j k l : ℕ) (u v : List ℤ) → IsRefused version d es (Twin i j u) → IsRefused version d es (Twin k l v) → Twin i j u ≡ Twin k l v
   one_twin i j k l u v (us, a, crossed, twins, before, first, long) (ts, b, crossed2, twins2, before2, first2, long2) =
       let same = one_list us ts a b in
       elim (places_cases (i, j) (k, l)) [
@@ -217,7 +217,7 @@ module _ (d : ℕ) (es : List Entry) (low : 2 ≤ d) (some : 0 < length es) wher
   IsEarly (Twin i j u) = ⊥
   IsEarly _ = Unit {0}
 
-  of_entry : (r : Refusal) → IsEarly r → IsRefused d es r → IsOfEntry r
+  of_entry : (r : Refusal) → IsEarly r → IsRefused version d es r → IsOfEntry r
   of_entry TooLong o x = x
   of_entry (Syntax line) o x = x
   of_entry (OtherDimension found) o x = x
@@ -225,10 +225,10 @@ module _ (d : ℕ) (es : List Entry) (low : 2 ≤ d) (some : 0 < length es) wher
   of_entry (Twin i j u) o x = o
   of_entry _ o x = tt
 
-  early : (r : Refusal) → IsEarly r → IsRefused d es r → Stops (entry_of r)
+  early : (r : Refusal) → IsEarly r → IsRefused version d es r → Stops (entry_of r)
   early r o x = stops r (of_entry r o x) x
 
-  pub one_refusal : (r s : Refusal) → IsRefused d es r → IsRefused d es s → r ≡ s
+  pub one_refusal : (r s : Refusal) → IsRefused version d es r → IsRefused version d es s → r ≡ s
   one_refusal (BadCross k f) (BadCross l g) x y = one_cross k f l g x y
   one_refusal (BadCross k f) (Twin i j u) x y = absurd (cross_or_twin k f i j u x y)
   one_refusal (Twin i j u) (BadCross k f) x y = absurd (cross_or_twin k f i j u y x)

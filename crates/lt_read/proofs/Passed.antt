@@ -21,9 +21,9 @@ use Rattle.lt_read.proofs.Plain.{no_mark_is_cross}
 use Rattle.lt_read.proofs.Counted.{entry_fits}
 
 -- the entries of a text are those of an atlas, whose marks are read from it
-pub record AreRead (d : ℕ) (es : List Entry) (bs : List model.Entry) (ms : List (List model.Mark)) : Type 0 where
+pub record AreRead (version d : ℕ) (es : List Entry) (bs : List model.Entry) (ms : List (List model.Mark)) : Type 0 where
   pub count : length bs ≡ length es
-  pub entries : (k : ℕ) → k < length es → IsEntryOf (entry_at es k) (model.entry_at bs k)
+  pub entries : (k : ℕ) → k < length es → IsEntryOf version (entry_at es k) (model.entry_at bs k)
   pub marks : ms ≡ map (λ e. map (read_mark d) e.marks) es
 
 -- a mark that is read as a cross is one
@@ -33,7 +33,7 @@ read_cross d (cross j v) k u e = let p = cross_parts j k (rows d v) u e in (v, a
 read_cross d (wide n s) k u e = absurd (cc)
 read_cross d (heavy w) k u e = absurd (cc)
 
-module _ (d : ℕ) (es : List Entry) (bs : List model.Entry) (ms : List (List model.Mark)) (fits : EntriesFit d 0 es) (read : AreRead d es bs ms) (h : AreRight (IsAcross d) d bs ms) where
+module _ (version d : ℕ) (es : List Entry) (bs : List model.Entry) (ms : List (List model.Mark)) (fits : EntriesFit d 0 es) (read : AreRead version d es bs ms) (h : AreRight (IsAcross d) d bs ms) where
   abbrev ts : List Classes
   ts = triangulations bs
 
@@ -94,7 +94,7 @@ module _ (d : ℕ) (es : List Entry) (bs : List model.Entry) (ms : List (List mo
       } in
       (from, across p (own k) here o.across)
 
-  pub listed : (k : ℕ) → k < length es → IsListed d es ts k (own k)
+  pub listed : (k : ℕ) → k < length es → IsListed version d es ts k (own k)
   listed zero l = (h.start, (read.entries 0 l).listed)
   listed (suc k) l =
       let c = came (suc k) (omega arith) l in
@@ -103,10 +103,10 @@ module _ (d : ℕ) (es : List Entry) (bs : List model.Entry) (ms : List (List mo
   pub right_cone : (k : ℕ) → k < length es → IsRightCone d (own k) (entry_at es k).cone
   right_cone k l = subst (IsRightCone d (own k)) (read.entries k l).cone (h.entries k (there k l)).cone
 
-  pub passed : HavePassed d es ts (length es)
+  pub passed : HavePassed version d es ts (length es)
   passed = record {
     long = length-map bs (λ (b : model.Entry). b.triangulation) ∙ read.count;
-    listed = λ k l. subst (λ (z : Classes). IsListed d es ts k z) (sym (tri k l)) (listed k l);
+    listed = λ k l. subst (λ (z : Classes). IsListed version d es ts k z) (sym (tri k l)) (listed k l);
     cones = λ k l. subst (λ (z : Classes). IsRightCone d z (entry_at es k).cone) (sym (tri k l)) (right_cone k l);
   }
 

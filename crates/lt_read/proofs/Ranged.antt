@@ -15,11 +15,12 @@ use Rattle.lt_geometry.proofs.Fewness.{few_classes}
 use Rattle.lt_triang.proofs.Gaps.{near_from_span}
 use Rattle.lt_grammar.specs.Ranges.{ClassFits, ClassesFit, OriginFits, MarkFits, MarksFit, EntryFits, EntriesFit, TextFits}
 use Rattle.lt_text.specs.Texts.{class_numbers}
-use Rattle.lt_text.specs.Values.{mark_value, entry_value, entries_value, value_of}
+use Rattle.lt_text.specs.Values.{listed, mark_value, entry_value, entries_value, value_of}
 use Rattle.lt_text.proofs.AsSpelt.{entries_long}
 use Rattle.lt_read.proofs.RangedCones.{cone_fits}
 use Rattle.lt_read.proofs.RangedMarks.{mark_fits}
 use Rattle.lt_read.proofs.WideMarks.{class_below}
+use Rattle.lt_read.proofs.Halves.{from_listed, some_listed, few_listed}
 
 -- ---- lists
 
@@ -28,11 +29,11 @@ classes_all d [] h = tt
 classes_all d (s ∷ t) h = (h s (Contains-head s t), classes_all d t (λ r c. h r (Contains-tail s t r c)))
 
 -- the entries that are spelt from the number j on
-entries_all : (d : ℕ) (marks : List (List Mark)) (j : ℕ) (es : List Entry) → ((k n : ℕ) → k < length es → n ≡ j + k → EntryFits d n (entry_value (entry_at es k) (get_or marks n []))) → EntriesFit d j (entries_value marks j es)
-entries_all d marks j [] h = tt
-entries_all d marks j (e ∷ es) h = (h 0 j (omega arith) (omega arith), entries_all d marks (suc j) es (λ k n l e. h (suc k) n (omega (arith, l)) (omega (arith, e))))
+entries_all : (version d : ℕ) (marks : List (List Mark)) (j : ℕ) (es : List Entry) → ((k n : ℕ) → k < length es → n ≡ j + k → EntryFits d n (entry_value version (entry_at es k) (get_or marks n []))) → EntriesFit d j (entries_value version marks j es)
+entries_all version d marks j [] h = tt
+entries_all version d marks j (e ∷ es) h = (h 0 j (omega arith) (omega arith), entries_all version d marks (suc j) es (λ k n l e. h (suc k) n (omega (arith, l)) (omega (arith, e))))
 
-module _ (a : Atlas) (low : 2 ≤ a.dimension) (high : a.dimension ≤ 6) (kept : IsKept (IsAcross a.dimension) a) (none : stuck (begin a).marks ≡ 0) (few : length a.entries ≤ 100001) where
+module _ (version : ℕ) (a : Atlas) (low : 2 ≤ a.dimension) (high : a.dimension ≤ 6) (kept : IsKept (IsAcross a.dimension) a) (none : stuck (begin a).marks ≡ 0) (few : length a.entries ≤ 100001) where
   abbrev d : ℕ
   d = a.dimension
 
@@ -54,14 +55,17 @@ module _ (a : Atlas) (low : 2 ≤ a.dimension) (high : a.dimension ≤ 6) (kept 
       let f = o.within in
       subst (OriginFits (suc k)) (sym o.named) ((λ z. absurd (omega (arith, z))), ((omega arith, omega (arith, there, few)), (omega arith, omega (arith, f, most, rows))))
 
-  classes_fit : (k : ℕ) → k < length a.entries → ClassesFit d (map class_numbers (own k))
+  classes_fit : (k : ℕ) → k < length a.entries → ClassesFit d (map class_numbers (listed version (own k)))
   classes_fit k l =
       let f = form k l in
       let right = kept.right.parts.entries k l in
-      let long = length-map (own k) class_numbers in
-      let some = f.1.occupied in
+      let long = length-map (listed version (own k)) class_numbers in
+      let some = some_listed version d (own k) low f in
+      let least = few_listed version d (own k) low f in
       let most = few_classes d f.0 (own k) low high f.1 in
-      ((omega (arith, long, some), omega (arith, long, most)), classes_all d (own k) (λ s c. class_below d (span_limit d) s (right.classes s c) (near_from_span (span_limit d) (own k) s right.narrow c)))
+      ((omega (arith, long, some), omega (arith, long, least, most)), classes_all d (listed version (own k)) (λ s c.
+      let m = from_listed version (own k) s c in
+      class_below d (span_limit d) s (right.classes s m) (near_from_span (span_limit d) (own k) s right.narrow m)))
 
   marks_fit : (k : ℕ) → k < length a.entries → MarksFit d (length (facets (entry_at a.entries k))) (map mark_value (get_or a.marks k []))
   marks_fit k l =
@@ -75,14 +79,14 @@ module _ (a : Atlas) (low : 2 ≤ a.dimension) (high : a.dimension ≤ 6) (kept 
             subst (MarkFits d) (sym (get_or-map mark_value row f no_mark (mark_value no_mark) here)) (mark_fits a low high kept none (omega (arith, few)) (k, f) (omega (arith, l, lists)) here))),
       )
 
-  entry_fits : (k n : ℕ) → k < length a.entries → n ≡ 0 + k → EntryFits d n (entry_value (entry_at a.entries k) (get_or a.marks n []))
+  entry_fits : (k n : ℕ) → k < length a.entries → n ≡ 0 + k → EntryFits d n (entry_value version (entry_at a.entries k) (get_or a.marks n []))
   entry_fits k n l e =
       let s : k ≡ n = omega (arith, e) in
       let c = entry_at a.entries k in
-      subst (λ (m : ℕ). EntryFits d m (entry_value c (get_or a.marks m []))) s (origin_fits k l, (classes_fit k l, (cone_fits d c.triangulation c.cone low high (form k l) (kept.right.parts.entries k l).cone, marks_fit k l)))
+      subst (λ (m : ℕ). EntryFits d m (entry_value version c (get_or a.marks m []))) s (origin_fits k l, (classes_fit k l, (cone_fits d c.triangulation c.cone low high (form k l) (kept.right.parts.entries k l).cone, marks_fit k l)))
 
-  pub text_fits : TextFits (value_of a)
+  pub text_fits : TextFits (value_of version a)
   text_fits =
-      let long = entries_long a.marks 0 a.entries in
+      let long = entries_long version a.marks 0 a.entries in
       let some = kept.right.parts.occupied in
-      ((low, high), ((omega (arith, long, some), omega (arith, long, few)), entries_all d a.marks 0 a.entries entry_fits))
+      ((low, high), ((omega (arith, long, some), omega (arith, long, few)), entries_all version d a.marks 0 a.entries entry_fits))

@@ -11,7 +11,8 @@ use Rattle.lt_io.specs.declared.source.ReadAllError.TheVariants as source
 use Rattle.lt_model.specs.Limits.{input_limit}
 use Rattle.lt_model.specs.Atlases as model
 use Rattle.lt_model.specs.Atlases.{Classes}
-use Rattle.lt_model.specs.RightAtlases.{fresh_atlas}
+use Rattle.lt_model.specs.RightAtlases.{IsRight, fresh_atlas}
+use Rattle.lt_model.specs.Walls.{IsAcross}
 use Rattle.lt_grammar.specs.Texts.{Mark, Entry, Text, text}
 use Rattle.lt_grammar.specs.Ranges.{TextFits}
 use Rattle.lt_grammar.specs.Parsed.{IsWhy}
@@ -31,19 +32,19 @@ use Rattle.lt_read.proofs.Passing.{tri}
 
 -- ---- the atlas of a text
 
-listed_classes : (d : ℕ) (es : List Entry) (ts : List Classes) (k : ℕ) (t : Classes) → IsListed d es ts k t → Lists (entry_at es k).classes t
-listed_classes d es ts zero t h = h.1
-listed_classes d es ts (suc k) t (o, x, l, c) = c
+listed_classes : (version d : ℕ) (es : List Entry) (ts : List Classes) (k : ℕ) (t : Classes) → IsListed version d es ts k t → Lists version (entry_at es k).classes t
+listed_classes version d es ts zero t h = h.1
+listed_classes version d es ts (suc k) t (o, x, l, c) = c
 
-pub atlas_is : (t : Text) (bs : List model.Entry) (mss : List (List Mark)) (ms : List (List model.Mark)) → AreBuilt t.dimension t.entries bs → AreMarks t.entries mss → length bs ≡ length t.entries → ms ≡ read_marks t → IsAtlasOf t (fresh_atlas t.dimension bs ms)
-atlas_is t bs mss ms built marks whole is = record {
+pub atlas_is : (version : ℕ) (t : Text) (bs : List model.Entry) (mss : List (List Mark)) (ms : List (List model.Mark)) → AreBuilt version t.dimension t.entries bs → AreMarks t.entries mss → length bs ≡ length t.entries → ms ≡ read_marks t → IsAtlasOf version t (fresh_atlas t.dimension bs ms)
+atlas_is version t bs mss ms built marks whole is = record {
   count = whole;
   entries = λ k l.
       let here : k < length bs = omega (arith, l, whole) in
       record {
         cone = built.cones k here;
         origin = built.origins k here;
-        listed = subst (Lists (entry_at t.entries k).classes) (tri t.dimension t.entries bs mss built marks k here) (listed_classes t.dimension t.entries (triangulations bs) k (at (triangulations bs) k) (built.passed.listed k here));
+        listed = subst (Lists version (entry_at t.entries k).classes) (tri version t.dimension t.entries bs mss built marks k here) (listed_classes version t.dimension t.entries (triangulations bs) k (at (triangulations bs) k) (built.passed.listed k here));
       };
   fresh = ap (fresh_atlas t.dimension bs) is;
 }
@@ -71,50 +72,50 @@ too_long (Some told) (Some rest) taken limit h n =
 
 -- ---- why nothing is read
 
-first_refusal : (d : ℕ) (bytes : List ℕ) (t : Text) (r : Refusal) → length bytes ≤ input_limit d → TextFits t → t.dimension ≡ d → bytes ≡ text 1 t → IsRefused d t.entries r → IsFirstRefusal d bytes r
-first_refusal d bytes t TooLong l f e is h = absurd h
-first_refusal d bytes t (Syntax line) l f e is h = absurd h
-first_refusal d bytes t (OtherDimension found) l f e is h = absurd h
-first_refusal d bytes t NotPrincipal l f e is h = (l, (t, f, e, is, h))
-first_refusal d bytes t (BadOrigin k) l f e is h = (l, (t, f, e, is, h))
-first_refusal d bytes t (BadSimplices k) l f e is h = (l, (t, f, e, is, h))
-first_refusal d bytes t (BadCone k row) l f e is h = (l, (t, f, e, is, h))
-first_refusal d bytes t (BadCross k facet) l f e is h = (l, (t, f, e, is, h))
-first_refusal d bytes t (Twin i j matrix) l f e is h = (l, (t, f, e, is, h))
+first_refusal : (version d : ℕ) (bytes : List ℕ) (t : Text) (r : Refusal) → length bytes ≤ input_limit d → TextFits t → t.dimension ≡ d → bytes ≡ text version t → IsRefused version d t.entries r → IsFirstRefusal version d bytes r
+first_refusal version d bytes t TooLong l f e is h = absurd h
+first_refusal version d bytes t (Syntax line) l f e is h = absurd h
+first_refusal version d bytes t (OtherDimension found) l f e is h = absurd h
+first_refusal version d bytes t NotPrincipal l f e is h = (l, (t, f, e, is, h))
+first_refusal version d bytes t (BadOrigin k) l f e is h = (l, (t, f, e, is, h))
+first_refusal version d bytes t (BadSimplices k) l f e is h = (l, (t, f, e, is, h))
+first_refusal version d bytes t (BadCone k row) l f e is h = (l, (t, f, e, is, h))
+first_refusal version d bytes t (BadCross k facet) l f e is h = (l, (t, f, e, is, h))
+first_refusal version d bytes t (Twin i j matrix) l f e is h = (l, (t, f, e, is, h))
 
-source_why : (d : ℕ) (old new : Option (List ℕ)) (before now : ℕ) (e : ReadAllError) → WhyNotAll old new before now (input_limit d) e → IsWhyUnread d old new before now (of_source e)
-source_why d old new before now source.Failed h = h
-source_why d old new before now source.TooLong (taken, h, n) = too_long old new taken (input_limit d) h n
-source_why d old new before now source.Memory h = tt
+source_why : (version d : ℕ) (old new : Option (List ℕ)) (before now : ℕ) (e : ReadAllError) → WhyNotAll old new before now (input_limit d) e → IsWhyUnread version d old new before now (of_source e)
+source_why version d old new before now source.Failed h = h
+source_why version d old new before now source.TooLong (taken, h, n) = too_long old new taken (input_limit d) h n
+source_why version d old new before now source.Memory h = tt
 
-parse_why : (d : ℕ) (old new : Option (List ℕ)) (before now : ℕ) (bytes : List ℕ) (e : ParseError) → ReadsAll old new bytes (input_limit d) → IsWhy 1 bytes d e → IsWhyUnread d old new before now (of_parse e)
-parse_why d old new before now bytes (parse.Syntax line) all h = (bytes, all_taken old new bytes (input_limit d) all, (all.within, h))
-parse_why d old new before now bytes (parse.OtherDimension found) all h = (bytes, all_taken old new bytes (input_limit d) all, (all.within, h.0, h.1))
-parse_why d old new before now bytes parse.Memory all h = tt
+parse_why : (version d : ℕ) (old new : Option (List ℕ)) (before now : ℕ) (bytes : List ℕ) (e : ParseError) → ReadsAll old new bytes (input_limit d) → IsWhy version bytes d e → IsWhyUnread version d old new before now (of_parse e)
+parse_why version d old new before now bytes (parse.Syntax line) all h = (bytes, all_taken old new bytes (input_limit d) all, (all.within, h))
+parse_why version d old new before now bytes (parse.OtherDimension found) all h = (bytes, all_taken old new bytes (input_limit d) all, (all.within, h.0, h.1))
+parse_why version d old new before now bytes parse.Memory all h = tt
 
 -- the bytes are a text of the dimension
-pub record AreText (d : ℕ) (bytes : List ℕ) (t : Text) : Type 0 where
+pub record AreText (version d : ℕ) (bytes : List ℕ) (t : Text) : Type 0 where
   pub fits : TextFits t
   pub dimension : t.dimension ≡ d
-  pub spelt : bytes ≡ text 1 t
+  pub spelt : bytes ≡ text version t
 
-stop_why : (d : ℕ) (old new : Option (List ℕ)) (before now : ℕ) (bytes : List ℕ) (t : Text) (s : Stop) → ReadsAll old new bytes (input_limit d) → AreText d bytes t → IsStop t.dimension t.entries s → IsWhyUnread d old new before now (of_stop s)
-stop_why d old new before now bytes t (stop.Refused r) all h x =
-    (bytes, all_taken old new bytes (input_limit d) all, first_refusal d bytes t r all.within h.fits h.dimension h.spelt (subst (λ (n : ℕ). IsRefused n t.entries r) h.dimension x))
-stop_why d old new before now bytes t stop.Memory all h x = tt
+stop_why : (version d : ℕ) (old new : Option (List ℕ)) (before now : ℕ) (bytes : List ℕ) (t : Text) (s : Stop) → ReadsAll old new bytes (input_limit d) → AreText version d bytes t → IsStop version t.dimension t.entries s → IsWhyUnread version d old new before now (of_stop s)
+stop_why version d old new before now bytes t (stop.Refused r) all h x =
+    (bytes, all_taken old new bytes (input_limit d) all, first_refusal version d bytes t r all.within h.fits h.dimension h.spelt (subst (λ (n : ℕ). IsRefused version n t.entries r) h.dimension x))
+stop_why version d old new before now bytes t stop.Memory all h x = tt
 
 -- ---- what reading answers
 
-module _ {A : Type 0} (d : ℕ) (old new : Option (List ℕ)) (before now : ℕ) (r : Result A ReadError) where
-  pub unread : (e : ReadAllError) → IsErrAnd r (λ y. y ≡ of_source e) → WhyNotAll old new before now (input_limit d) e → IfErr r (IsWhyUnread d old new before now)
-  unread e is h = at_exit r (IsWhyUnread d old new before now) (of_source e) is (source_why d old new before now e h)
+module _ {A : Type 0} (version d : ℕ) (old new : Option (List ℕ)) (before now : ℕ) (r : Result A ReadError) where
+  pub unread : (e : ReadAllError) → IsErrAnd r (λ y. y ≡ of_source e) → WhyNotAll old new before now (input_limit d) e → IfErr r (IsWhyUnread version d old new before now)
+  unread e is h = at_exit r (IsWhyUnread version d old new before now) (of_source e) is (source_why version d old new before now e h)
 
   module _ (bytes : List ℕ) (all : ReadsAll old new bytes (input_limit d)) where
-    pub no_text : (e : ParseError) → IsErrAnd r (λ y. y ≡ of_parse e) → IsWhy 1 bytes d e → IfErr r (IsWhyUnread d old new before now)
-    no_text e is h = at_exit r (IsWhyUnread d old new before now) (of_parse e) is (parse_why d old new before now bytes e all h)
+    pub no_text : (e : ParseError) → IsErrAnd r (λ y. y ≡ of_parse e) → IsWhy version bytes d e → IfErr r (IsWhyUnread version d old new before now)
+    no_text e is h = at_exit r (IsWhyUnread version d old new before now) (of_parse e) is (parse_why version d old new before now bytes e all h)
 
-    pub stopped : (t : Text) → AreText d bytes t → (s : Stop) → IsErrAnd r (λ y. y ≡ of_stop s) → IsStop t.dimension t.entries s → IfErr r (IsWhyUnread d old new before now)
-    stopped t h s is x = at_exit r (IsWhyUnread d old new before now) (of_stop s) is (stop_why d old new before now bytes t s all h x)
+    pub stopped : (t : Text) → AreText version d bytes t → (s : Stop) → IsErrAnd r (λ y. y ≡ of_stop s) → IsStop version t.dimension t.entries s → IfErr r (IsWhyUnread version d old new before now)
+    stopped t h s is x = at_exit r (IsWhyUnread version d old new before now) (of_stop s) is (stop_why version d old new before now bytes t s all h x)
 
-pub reads : (d : ℕ) (old new : Option (List ℕ)) (bytes : List ℕ) (t : Text) (a : model.Atlas) → ReadsAll old new bytes (input_limit d) → AreText d bytes t → IsAtlasOf t a → ReadsAtlas d old new a
-reads d old new bytes t a all h x = (bytes, all_taken old new bytes (input_limit d) all, record { value = t; within = all.within; fits = h.fits; dimension = h.dimension; spelt = h.spelt; atlas = x })
+pub reads : (version d : ℕ) (old new : Option (List ℕ)) (bytes : List ℕ) (t : Text) (a : model.Atlas) → ReadsAll old new bytes (input_limit d) → AreText version d bytes t → IsAtlasOf version t a → IsRight (IsAcross a.dimension) a → ReadsAtlas version d old new a
+reads version d old new bytes t a all h x right = (bytes, all_taken old new bytes (input_limit d) all, record { value = t; within = all.within; fits = h.fits; dimension = h.dimension; spelt = h.spelt; atlas = x; right = right })

@@ -1,22 +1,23 @@
 -- The text of an atlas of a run is read as the atlas with its entries and crosses.
-use Rattle.std.proofs.Common.{◌≡◌, ℕ, zero, suc, ℤ, ◌+◌, ◌<◌, refl, sym, ap, ◌∙◌, subst, arith, List, [], ◌∷◌, map, length, get_or}
+use Rattle.std.proofs.Common.{◌≡◌, ℕ, zero, suc, ℤ, ◌+◌, ◌<◌, ◌≤◌, inr, refl, sym, ap, ◌∙◌, subst, arith, List, [], ◌∷◌, map, length, get_or}
 use Rattle.std.proofs.lemmas.List.{get_or-map, length-map, same_lists}
 use Rattle.lt_model.specs.Matrices.{identity}
+use Rattle.lt_model.specs.Limits.{input_limit}
 use Rattle.lt_model.specs.Walls.{IsAcross}
 use Rattle.lt_model.specs.Atlases.{Mark, open_mark, cross, wide, heavy, no_mark, Entry, Atlas, entry_at, mark_at, one_if_stuck, count_in, stuck}
-use Rattle.lt_model.specs.RightAtlases.{HasOrigin, AreRight, fresh_atlas}
+use Rattle.lt_model.specs.RightAtlases.{HasOrigin, AreRight, IsRight, fresh_atlas}
 use Rattle.lt_model.proofs.Flat.{rows-flat}
 use Rattle.lt_core.proofs.FirstEntry.{none_stuck}
 use Rattle.lt_core.proofs.Starting.{kept_fresh}
 use Rattle.lt_core.proofs.Undo.{mark_within}
 use Rattle.lt_grammar.specs.Texts as spelt
 use Rattle.lt_text.specs.Texts.{atlas_text}
-use Rattle.lt_text.specs.Values.{mark_value, entry_value, entries_value, value_of}
+use Rattle.lt_text.specs.Values.{mark_value, entry_value, entries_value, value_of, text_in}
 use Rattle.lt_text.proofs.AsSpelt.{entries_long, as_spelt}
 use Rattle.lt_read.specs.Refused as read
 use Rattle.lt_read.specs.Refused.{read_mark}
 use Rattle.lt_read.specs.Reading.{IsEntryOf, read_marks, IsAtlasOf, IsRead}
-use Rattle.lt_read.specs.Laws.{reopened, resumed, IsRightAtlas, StartsHaveNoStuckMarks, WhatIsReadHasNoStuckMarks, AtlasesAreResumed}
+use Rattle.lt_read.specs.Laws.{reopened, resumed, IsOfRun, IsResumed, StartsHaveNoStuckMarks, WhatIsReadHasNoStuckMarks, AtlasesAreResumed}
 use Rattle.lt_read.proofs.Plain.{no_mark_is_cross}
 use Rattle.lt_read.proofs.Ranged.{text_fits}
 use Rattle.lt_read.proofs.Read.{read_not_refused, one_read}
@@ -68,23 +69,23 @@ module _ (mss : List (List Mark)) where
 
 -- ---- what is spelt, and read back
 
-spelt_entry : (marks : List (List Mark)) (j : ℕ) (es : List Entry) (k n : ℕ) → k < length es → n ≡ j + k → read.entry_at (entries_value marks j es) k ≡ entry_value (entry_at es k) (get_or marks n [])
-spelt_entry marks j [] k n l e = absurd (omega (arith, l))
-spelt_entry marks j (x ∷ es) zero n l e = let s : j ≡ n = omega (arith, e) in ap (λ (i : ℕ). entry_value x (get_or marks i [])) s
-spelt_entry marks j (x ∷ es) (suc k) n l e = spelt_entry marks (suc j) es k n (omega (arith, l)) (omega (arith, e))
+spelt_entry : (version : ℕ) (marks : List (List Mark)) (j : ℕ) (es : List Entry) (k n : ℕ) → k < length es → n ≡ j + k → read.entry_at (entries_value version marks j es) k ≡ entry_value version (entry_at es k) (get_or marks n [])
+spelt_entry version marks j [] k n l e = absurd (omega (arith, l))
+spelt_entry version marks j (x ∷ es) zero n l e = let s : j ≡ n = omega (arith, e) in ap (λ (i : ℕ). entry_value version x (get_or marks i [])) s
+spelt_entry version marks j (x ∷ es) (suc k) n l e = spelt_entry version marks (suc j) es k n (omega (arith, l)) (omega (arith, e))
 
-module _ (a : Atlas) (right : AreRight (IsAcross a.dimension) a.dimension a.entries a.marks) where
+module _ (version : ℕ) (a : Atlas) (right : AreRight (IsAcross a.dimension) a.dimension a.entries a.marks) where
   abbrev d : ℕ
   d = a.dimension
 
   abbrev es : List spelt.Entry
-  es = entries_value a.marks 0 a.entries
+  es = entries_value version a.marks 0 a.entries
 
-  spelt_at : (k : ℕ) → k < length a.entries → read.entry_at es k ≡ entry_value (entry_at a.entries k) (get_or a.marks k [])
-  spelt_at k l = spelt_entry a.marks 0 a.entries k k l (omega arith)
+  spelt_at : (k : ℕ) → k < length a.entries → read.entry_at es k ≡ entry_value version (entry_at a.entries k) (get_or a.marks k [])
+  spelt_at k l = spelt_entry version a.marks 0 a.entries k k l (omega arith)
 
   count : length a.entries ≡ length es
-  count = sym (entries_long a.marks 0 a.entries)
+  count = sym (entries_long version a.marks 0 a.entries)
 
   mark_back : (p : ℕ × ℕ) (m : Mark) → mark_at a.marks p ≡ m → read_mark d (mark_value m) ≡ reopened m
   mark_back p open_mark e = refl
@@ -105,7 +106,7 @@ module _ (a : Atlas) (right : AreRight (IsAcross a.dimension) a.dimension a.entr
       ∙ mark_back (k, f) (mark_at a.marks (k, f)) refl
       ∙ sym (get_or-map reopened row f no_mark x here))
 
-  marks_back : map (map reopened) a.marks ≡ read_marks (value_of a)
+  marks_back : map (map reopened) a.marks ≡ read_marks (value_of version a)
   marks_back =
       let read_row : spelt.Entry → List Mark = λ e. map (read_mark d) e.marks in
       let one = length-map a.marks (map reopened) in
@@ -119,12 +120,12 @@ module _ (a : Atlas) (right : AreRight (IsAcross a.dimension) a.dimension a.entr
       ∙ ap read_row (sym (spelt_at k here))
       ∙ sym (get_or-map read_row es k read.no_entry x (omega (arith, here, c))))
 
-  entry_back : (k : ℕ) → k < length es → IsEntryOf (read.entry_at es k) (entry_at a.entries k)
+  entry_back : (k : ℕ) → k < length es → IsEntryOf version (read.entry_at es k) (entry_at a.entries k)
   entry_back k l =
       let c = count in
-      subst (λ (e : spelt.Entry). IsEntryOf e (entry_at a.entries k)) (sym (spelt_at k (omega (arith, l, c)))) (record { cone = refl; origin = refl; listed = refl })
+      subst (λ (e : spelt.Entry). IsEntryOf version e (entry_at a.entries k)) (sym (spelt_at k (omega (arith, l, c)))) (record { cone = refl; origin = refl; listed = refl })
 
-  atlas_back : IsAtlasOf (value_of a) (resumed a)
+  atlas_back : IsAtlasOf version (value_of version a) (resumed a)
   atlas_back = record { count = count; entries = entry_back; fresh = ap (fresh_atlas d a.entries) marks_back }
 
 -- ---- how a run begins
@@ -144,22 +145,25 @@ free_rows d [] = refl
 free_rows d (e ∷ es) = let a = free_row d e.marks in let b = free_rows d es in omega (arith, a, b)
 
 pub read_free : WhatIsReadHasNoStuckMarks
-read_free d bytes a h = ap (λ (z : Atlas). stuck z.marks) h.atlas.fresh ∙ free_rows h.value.dimension h.value.entries
+read_free version d bytes a h = ap (λ (z : Atlas). stuck z.marks) h.atlas.fresh ∙ free_rows h.value.dimension h.value.entries
 
 pub start_free : StartsHaveNoStuckMarks
 start_free d a h = ap (λ (z : Atlas). stuck z.marks) h.atlas ∙ none_stuck _
 
 pub atlases_resumed : AtlasesAreResumed
-atlases_resumed a run few short =
+atlases_resumed version a known run few short =
     let d = a.dimension in
     let parts = run.kept.right.parts in
-    let fits = text_fits a run.low run.high run.kept run.began few in
-    let again : IsRightAtlas (resumed a) = (kept_fresh (IsAcross d) d a.entries (map (map reopened) a.marks) (back_right a.marks (IsAcross d) d a.entries parts)).right in
-    let back : IsRead d (atlas_text a) (resumed a) = record { value = value_of a; within = short; fits = fits; dimension = refl; spelt = as_spelt a; atlas = atlas_back a parts } in
+    let fits = text_fits version a run.low run.high run.kept run.began few in
+    let again : IsRight (IsAcross d) (resumed a) = (kept_fresh (IsAcross d) d a.entries (map (map reopened) a.marks) (back_right a.marks (IsAcross d) d a.entries parts)).right in
+    let back : IsRead version d (text_in version a) (resumed a) = record { value = value_of version a; within = short; fits = fits; dimension = refl; spelt = refl; atlas = atlas_back version a parts; right = again } in
     record {
       fits = fits;
-      accepted = λ r h. read_not_refused d (atlas_text a) (resumed a) r again back h;
-      right = again;
+      accepted = λ r h. read_not_refused version d (text_in version a) (resumed a) r known back h;
       read = back;
-      only = λ b right h. one_read d (atlas_text a) b (resumed a) right again h back;
+      only = λ b h. one_read version d (text_in version a) b (resumed a) known h back;
     }
+
+-- the same of the text that is written
+pub written_resumed : (a : Atlas) → IsOfRun a → length a.entries ≤ 100001 → length (atlas_text a) ≤ input_limit a.dimension → IsResumed 2 a
+written_resumed a run few short = atlases_resumed 2 a (inr refl) run few (subst (λ (l : List ℕ). length l ≤ input_limit a.dimension) (as_spelt a) short)

@@ -37,7 +37,7 @@ kept_cross (cross j v) k u e = let p = cross_parts j k (matrix_rows v) u e in (v
 kept_cross (wide n s) k u e = absurd (cc)
 kept_cross (heavy w) k u e = absurd (cc)
 
-module _ (d : ℕ) (es : List Entry) (bs : List model.Entry) (mss : List (List Mark)) (low : 2 ≤ d) (high : d ≤ 6) (fits : EntriesFit d 0 es) (built : AreBuilt d es bs) (sound : AreSound d bs) (marks : AreMarks es mss) (whole : length bs ≡ length es) (lists : length mss ≡ length es) where
+module _ (version d : ℕ) (es : List Entry) (bs : List model.Entry) (mss : List (List Mark)) (low : 2 ≤ d) (high : d ≤ 6) (fits : EntriesFit d 0 es) (built : AreBuilt version d es bs) (sound : AreSound d bs) (marks : AreMarks es mss) (whole : length bs ≡ length es) (lists : length mss ≡ length es) where
   abbrev kept : List (List model.Mark)
   kept = map (map kept_mark) mss
 
@@ -61,8 +61,8 @@ module _ (d : ℕ) (es : List Entry) (bs : List model.Entry) (mss : List (List M
       let s : p.1 < length (map kept_mark (get_or mss p.0 [])) = subst (λ (ms : List model.Mark). p.1 < length ms) (kept_row p.0 l) w.1 in
       (l, omega (arith, s, length-map (get_or mss p.0 []) kept_mark))
 
-  listed : (k : ℕ) → k < length bs → IsListed d es (triangulations bs) k (own k)
-  listed k l = subst (λ (z : Classes). IsListed d es (triangulations bs) k z) (tri d es bs mss built marks k l) (built.passed.listed k l)
+  listed : (k : ℕ) → k < length bs → IsListed version d es (triangulations bs) k (own k)
+  listed k l = subst (λ (z : Classes). IsListed version d es (triangulations bs) k z) (tri version d es bs mss built marks k l) (built.passed.listed k l)
 
   origin : (k : ℕ) → 0 < k → k < length bs → right.HasOrigin (IsAcross d) d bs kept k
   origin zero some l = absurd (omega (arith, some))
@@ -73,16 +73,16 @@ module _ (d : ℕ) (es : List Entry) (bs : List model.Entry) (mss : List (List M
       let before : o.parent < suc k = o.earlier in
       let here : o.parent < length bs = omega (arith, l, before) in
       let there : o.parent < length mss = omega (arith, here, whole, lists) in
-      let place : o.facet < length (model.facets (model.entry_at bs o.parent)) = subst (λ (ns : List (List ℤ)). o.facet < length ns) (sym (normals d es bs mss built marks o.parent here)) o.within in
-      let marked : o.facet < length (get_or mss o.parent []) = subst (λ (n : ℕ). o.facet < n) (sym (one_each d es bs mss fits built marks whole lists o.parent there)) place in
+      let place : o.facet < length (model.facets (model.entry_at bs o.parent)) = subst (λ (ns : List (List ℤ)). o.facet < length ns) (sym (normals version d es bs mss built marks o.parent here)) o.within in
+      let marked : o.facet < length (get_or mss o.parent []) = subst (λ (n : ℕ). o.facet < n) (sym (one_each version d es bs mss fits built marks whole lists o.parent there)) place in
       record {
         parent = o.parent;
         facet = o.facet;
         named = built.origins (suc k) l ∙ o.named;
         earlier = o.earlier;
         within = place;
-        across = across_from d es bs mss built marks p (own (suc k)) here h.1;
-        mark = kept_there p there marked ∙ ap kept_mark (sym (mark_there d es bs mss built marks p here) ∙ o.mark) ∙ ap (model.cross (suc k)) (identity_rows d low high);
+        across = across_from version d es bs mss built marks p (own (suc k)) here h.1;
+        mark = kept_there p there marked ∙ ap kept_mark (sym (mark_there version d es bs mss built marks p here) ∙ o.mark) ∙ ap (model.cross (suc k)) (identity_rows d low high);
       }
 
   crossed : ((k : ℕ) → k < length mss → AreRightMarks d bs mss k) → (p : ℕ × ℕ) (k : ℕ) (u : List (List ℤ)) → model.mark_at kept p ≡ model.cross k u → right.IsCrossed (IsAcross d) d bs p k u
@@ -90,7 +90,7 @@ module _ (d : ℕ) (es : List Entry) (bs : List model.Entry) (mss : List (List M
       let l = within p k u e in
       let c = kept_cross (spelt_at mss p) k u (sym (kept_there p l.0 l.1) ∙ e) in
       let x = h p.0 l.0 p.1 l.1 k c.0 c.1 in
-      let same : rows d c.0 ≡ u = sym (square_rows d c.0 low high (all_square d es bs mss fits built marks whole lists p k c.0 c.1)) ∙ c.2 in
+      let same : rows d c.0 ≡ u = sym (square_rows d c.0 low high (all_square version d es bs mss fits built marks whole lists p k c.0 c.1)) ∙ c.2 in
       record {
         present = x.0;
         across = x.1.0;
@@ -116,13 +116,13 @@ module _ (d : ℕ) (es : List Entry) (bs : List model.Entry) (mss : List (List M
   each : (k : ℕ) → k < length bs → length (get_or kept k []) ≡ length (model.facets (model.entry_at bs k))
   each k l =
       let there : k < length mss = omega (arith, l, whole, lists) in
-      ap length (kept_row k there) ∙ length-map (get_or mss k []) kept_mark ∙ one_each d es bs mss fits built marks whole lists k there
+      ap length (kept_row k there) ∙ length-map (get_or mss k []) kept_mark ∙ one_each version d es bs mss fits built marks whole lists k there
 
   parts : 0 < length bs → ((k : ℕ) → k < length mss → AreRightMarks d bs mss k) → ((i : ℕ) → i < length bs → HasNoTwin d bs i) → AreRight (IsAcross d) d bs kept
   parts some h g = record {
     occupied = some;
     start = (listed 0 some).0;
-    no_origin = built.origins 0 some ∙ none_at (entry_at es 0).origin (fits_at d es bs mss fits built marks whole lists 0 (omega (arith, some, whole))).0;
+    no_origin = built.origins 0 some ∙ none_at (entry_at es 0).origin (fits_at version d es bs mss fits built marks whole lists 0 (omega (arith, some, whole))).0;
     lists = long ∙ lists ∙ sym whole;
     each = each;
     origins = origin;
@@ -131,9 +131,9 @@ module _ (d : ℕ) (es : List Entry) (bs : List model.Entry) (mss : List (List M
     entries = entry;
   }
 
-pub right_parts : (d : ℕ) (t : Text) (bs : List model.Entry) (mss : List (List Mark)) → TextFits t → t.dimension ≡ d → AreBuilt d t.entries bs → AreSound d bs → AreMarks t.entries mss → length bs ≡ length t.entries → length mss ≡ length t.entries →
+pub right_parts : (version d : ℕ) (t : Text) (bs : List model.Entry) (mss : List (List Mark)) → TextFits t → t.dimension ≡ d → AreBuilt version d t.entries bs → AreSound d bs → AreMarks t.entries mss → length bs ≡ length t.entries → length mss ≡ length t.entries →
     ((k : ℕ) → k < length mss → AreRightMarks d bs mss k) → ((i : ℕ) → i < length bs → HasNoTwin d bs i) → AreRight (IsAcross d) d bs (map (map kept_mark) mss)
-right_parts d t bs mss fits size built sound marks whole lists h g =
+right_parts version d t bs mss fits size built sound marks whole lists h g =
     let low = fits.0.0 in
     let high = fits.0.1 in
     let some = fits.1.0.0 in

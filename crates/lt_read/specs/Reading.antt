@@ -6,7 +6,8 @@ use Rattle.std.specs.Io.KnownBytes.{Consumes, IsAtEnd}
 use Rattle.lt_io.specs.Causes.{Rose}
 use Rattle.lt_model.specs.Limits.{input_limit}
 use Rattle.lt_model.specs.Atlases as model
-use Rattle.lt_model.specs.RightAtlases.{fresh_atlas}
+use Rattle.lt_model.specs.RightAtlases.{IsRight, fresh_atlas}
+use Rattle.lt_model.specs.Walls.{IsAcross}
 use Rattle.lt_grammar.specs.Texts.{Entry, Text, text}
 use Rattle.lt_grammar.specs.Ranges.{TextFits}
 use Rattle.lt_read.specs.Refused.{entry_at, Lists, read_mark, IsFirstRefusal}
@@ -16,29 +17,31 @@ use Rattle.lt_read.specs.declared.refusals.ReadError.TheVariants.{Failed, Refuse
 -- ---- the atlas of a text
 
 -- an entry has the cone, the origin and the listed classes of a text's
-pub record IsEntryOf (e : Entry) (b : model.Entry) : Type 0 where
+pub record IsEntryOf (version : ℕ) (e : Entry) (b : model.Entry) : Type 0 where
   pub cone : b.cone ≡ e.cone
   pub origin : b.origin ≡ e.origin
-  pub listed : Lists e.classes b.triangulation
+  pub listed : Lists version e.classes b.triangulation
 
 -- the marks of each entry; wide and heavy ones are read as open
 abbrev pub read_marks : Text → List (List model.Mark)
 read_marks t = map (λ e. map (read_mark t.dimension) e.marks) t.entries
 
 -- the atlas has the entries and marks of a text, an empty log, and the queue of the open facets
-pub record IsAtlasOf (t : Text) (a : model.Atlas) : Type 0 where
+pub record IsAtlasOf (version : ℕ) (t : Text) (a : model.Atlas) : Type 0 where
   pub count : length a.entries ≡ length t.entries
-  pub entries : (k : ℕ) → k < length t.entries → IsEntryOf (entry_at t.entries k) (model.entry_at a.entries k)
+  pub entries : (k : ℕ) → k < length t.entries → IsEntryOf version (entry_at t.entries k) (model.entry_at a.entries k)
   pub fresh : a ≡ fresh_atlas t.dimension a.entries (read_marks t)
 
--- The bytes, at most the limit of them, are a text of dimension d, and the atlas is that of the text.
-pub record IsRead (d : ℕ) (bytes : List ℕ) (a : model.Atlas) : Type 0 where
+-- The bytes, at most the limit of them, are a text of dimension d, and the atlas is that of the text, and right. It is right by the checks;
+-- half of the classes tell the others in a right atlas alone.
+pub record IsRead (version d : ℕ) (bytes : List ℕ) (a : model.Atlas) : Type 0 where
   pub value : Text
   pub within : length bytes ≤ input_limit d
   pub fits : TextFits value
   pub dimension : value.dimension ≡ d
-  pub spelt : bytes ≡ text 1 value
-  pub atlas : IsAtlasOf value a
+  pub spelt : bytes ≡ text version value
+  pub atlas : IsAtlasOf version value a
+  pub right : IsRight (IsAcross a.dimension) a
 
 -- ---- the bytes of a source
 
@@ -56,12 +59,12 @@ pub record AreTaken (old new : Option (List ℕ)) (bytes : List ℕ) (limit : �
 -- ---- the answers
 
 -- the bytes that the source had left are read as the atlas
-abbrev pub ReadsAtlas : ℕ → Option (List ℕ) → Option (List ℕ) → model.Atlas → Type 0
-ReadsAtlas d old new a = (bytes : List ℕ) × AreTaken old new bytes (input_limit d) × IsRead d bytes a
+abbrev pub ReadsAtlas : ℕ → ℕ → Option (List ℕ) → Option (List ℕ) → model.Atlas → Type 0
+ReadsAtlas version d old new a = (bytes : List ℕ) × AreTaken old new bytes (input_limit d) × IsRead version d bytes a
 
 -- a fault of the source that was counted, or the first refusal of the bytes that it had left, or want of memory
-abbrev pub IsWhyUnread : ℕ → Option (List ℕ) → Option (List ℕ) → ℕ → ℕ → ReadError → Type 0
-IsWhyUnread d old new before now Failed = Rose before now
-IsWhyUnread d old new before now (Refused r) =
-    (bytes : List ℕ) × AreTaken old new bytes (input_limit d) × IsFirstRefusal d bytes r
-IsWhyUnread d old new before now Memory = ⊤
+abbrev pub IsWhyUnread : ℕ → ℕ → Option (List ℕ) → Option (List ℕ) → ℕ → ℕ → ReadError → Type 0
+IsWhyUnread version d old new before now Failed = Rose before now
+IsWhyUnread version d old new before now (Refused r) =
+    (bytes : List ℕ) × AreTaken old new bytes (input_limit d) × IsFirstRefusal version d bytes r
+IsWhyUnread version d old new before now Memory = ⊤

@@ -1,4 +1,3 @@
-mod Filtered
 mod Parities
 mod Values
 mod Unique

@@ -17,7 +17,7 @@ use Rattle.lt_laws.proofs.EdgeCount.{edge_not_zero, least_edges_are_shortest}
 use Rattle.lt_laws.proofs.Shortest.{edge_place, shortest_are_edges}
 use Rattle.lt_locate.specs.Edges.{AreEdges}
 use Rattle.lt_relevant.specs.Shortest.{IsShortest, IsLeastOf}
-use Rattle.lt_relevant.proofs.Filtered.{passing_in, from_filter, passes}
+use Rattle.lt_model.proofs.Filtered.{passing_in, from_filter, passes}
 
 -- the points of the list with the value l
 abbrev pub those_at : List ℤ → ℤ → List (List ℤ) → List (List ℤ)

@@ -7,6 +7,7 @@ use Rattle.std.proofs.lemmas.List.{append-nil, length-map}
 use Rattle.std.proofs.lemmas.List.Concat.{flat_map-append}
 use Rattle.lt_lines.specs.Lines.{behind_spaces, line, numbers_line}
 use Rattle.lt_model.specs.Flat.{flat}
+use Rattle.lt_model.specs.Negatives.{half}
 use Rattle.lt_model.specs.Cones.{Verdict, wall, combination, Row, Cone}
 use Rattle.lt_model.specs.Atlases.{Mark, open_mark, cross, wide, heavy, Entry, Atlas}
 use Rattle.lt_scan.specs.Lines.{Line, joined, bytes_of}
@@ -96,39 +97,39 @@ cone c =
     ∙ ap (λ l. l ++ bytes_of (spelt.form_line c.form ∷ [])) (ap (λ es. bytes_of (spelt.rows_lines es)) (sym (map-same c.rows)) ∙ list (codes "regulators") (λ r. r) spelt.row_line row_line c.rows (λ r. row r.normal r.verdict))
     ∙ ap (λ l. rows_text c.rows ++ l) (append-nil (bytes (spelt.form_line c.form)) ∙ labelled_line (codes "form") c.form)
 
-entry : (k : ℕ) (e : Entry) (ms : List Mark) → bytes_of (spelt.entry_lines k (entry_value e ms)) ≡ entry_text k e ms
+entry : (k : ℕ) (e : Entry) (ms : List Mark) → bytes_of (spelt.entry_lines k (entry_value 2 e ms)) ≡ entry_text k e ms
 entry k e ms =
-    let classes = spelt.classes_lines (map class_numbers e.triangulation) in
+    let classes = spelt.classes_lines (map class_numbers (half e.triangulation)) in
     let marks = spelt.marks_lines (map mark_value ms) in
-    let body : bytes_of (classes ++ (spelt.cone_lines e.cone ++ marks)) ≡ triangulation_text e.triangulation ++ (cone_text e.cone ++ marks_text ms) =
+    let body : bytes_of (classes ++ (spelt.cone_lines e.cone ++ marks)) ≡ triangulation_text (half e.triangulation) ++ (cone_text e.cone ++ marks_text ms) =
     joined_bytes classes (spelt.cone_lines e.cone ++ marks)
-    ∙ ap (λ l. l ++ bytes_of (spelt.cone_lines e.cone ++ marks)) (list (codes "simplices") class_numbers (map signed_decimal) class_line e.triangulation (λ s. numbers (class_numbers s)))
-    ∙ ap (λ l. triangulation_text e.triangulation ++ l) (joined_bytes (spelt.cone_lines e.cone) marks ∙ ap (λ l. l ++ bytes_of marks) (cone e.cone) ∙ ap (λ l. cone_text e.cone ++ l) (list (codes "marks") mark_value spelt.mark_line mark_line ms mark)) in
+    ∙ ap (λ l. l ++ bytes_of (spelt.cone_lines e.cone ++ marks)) (list (codes "simplices") class_numbers (map signed_decimal) class_line (half e.triangulation) (λ s. numbers (class_numbers s)))
+    ∙ ap (λ l. triangulation_text (half e.triangulation) ++ l) (joined_bytes (spelt.cone_lines e.cone) marks ∙ ap (λ l. l ++ bytes_of marks) (cone e.cone) ∙ ap (λ l. cone_text e.cone ++ l) (list (codes "marks") mark_value spelt.mark_line mark_line ms mark)) in
     ap (λ l. l ++ bytes_of (classes ++ (spelt.cone_lines e.cone ++ marks))) (origin k e.origin)
     ∙ ap (λ l. origin_line k e.origin ++ l) body
-    ∙ sym (append_assoc (origin_line k e.origin) (triangulation_text e.triangulation) (cone_text e.cone ++ marks_text ms))
-    ∙ sym (append_assoc (origin_line k e.origin ++ triangulation_text e.triangulation) (cone_text e.cone) (marks_text ms))
+    ∙ sym (append_assoc (origin_line k e.origin) (triangulation_text (half e.triangulation)) (cone_text e.cone ++ marks_text ms))
+    ∙ sym (append_assoc (origin_line k e.origin ++ triangulation_text (half e.triangulation)) (cone_text e.cone) (marks_text ms))
 
-entries : (marks : List (List Mark)) (k : ℕ) (es : List Entry) → bytes_of (spelt.entries_lines k (entries_value marks k es)) ≡ entries_text marks k es
+entries : (marks : List (List Mark)) (k : ℕ) (es : List Entry) → bytes_of (spelt.entries_lines k (entries_value 2 marks k es)) ≡ entries_text marks k es
 entries marks k [] = refl
 entries marks k (e ∷ es) =
-    let first = spelt.entry_lines k (entry_value e (get_or marks k [])) in
-    joined_bytes first (spelt.entries_lines (suc k) (entries_value marks (suc k) es))
-    ∙ ap (λ l. l ++ bytes_of (spelt.entries_lines (suc k) (entries_value marks (suc k) es))) (entry k e (get_or marks k []))
+    let first = spelt.entry_lines k (entry_value 2 e (get_or marks k [])) in
+    joined_bytes first (spelt.entries_lines (suc k) (entries_value 2 marks (suc k) es))
+    ∙ ap (λ l. l ++ bytes_of (spelt.entries_lines (suc k) (entries_value 2 marks (suc k) es))) (entry k e (get_or marks k []))
     ∙ ap (λ l. entry_text k e (get_or marks k []) ++ l) (entries marks (suc k) es)
 
-pub entries_long : (marks : List (List Mark)) (k : ℕ) (es : List Entry) → length (entries_value marks k es) ≡ length es
-entries_long marks k [] = refl
-entries_long marks k (e ∷ es) = ap suc (entries_long marks (suc k) es)
+pub entries_long : (version : ℕ) (marks : List (List Mark)) (k : ℕ) (es : List Entry) → length (entries_value version marks k es) ≡ length es
+entries_long version marks k [] = refl
+entries_long version marks k (e ∷ es) = ap suc (entries_long version marks (suc k) es)
 
 pub as_spelt : AtlasesAreSpelt
 as_spelt a =
-    let es = entries_value a.marks 0 a.entries in
-    let a1 = line (codes "ltypes") (pos 1 ∷ []) in
+    let es = entries_value 2 a.marks 0 a.entries in
+    let a1 = line (codes "ltypes") (pos 2 ∷ []) in
     let a2 = line (codes "dimension") (pos a.dimension ∷ []) in
     let a3 = line (codes "entries") (pos (length a.entries) ∷ []) in
     let last = line (codes "end") [] in
-    sym (ap (λ n. a1 ++ (a2 ++ (bytes (counted (codes "entries") n) ++ bytes_of (spelt.entries_lines 0 es ++ (codes "end" ∷ []) ∷ [])))) (entries_long a.marks 0 a.entries)
+    sym (ap (λ n. a1 ++ (a2 ++ (bytes (counted (codes "entries") n) ++ bytes_of (spelt.entries_lines 0 es ++ (codes "end" ∷ []) ∷ [])))) (entries_long 2 a.marks 0 a.entries)
     ∙ ap (λ l. a1 ++ (a2 ++ (a3 ++ l))) (joined_bytes (spelt.entries_lines 0 es) ((codes "end" ∷ []) ∷ []) ∙ ap (λ l. l ++ (last ++ [])) (entries a.marks 0 a.entries) ∙ ap (λ l. entries_text a.marks 0 a.entries ++ l) (append-nil last))
     ∙ sym (append_assoc a1 a2 (a3 ++ (entries_text a.marks 0 a.entries ++ last)))
     ∙ sym (append_assoc (a1 ++ a2) a3 (entries_text a.marks 0 a.entries ++ last))

@@ -30,6 +30,6 @@ example = record {
   log = [];
 }
 
--- its 17 lines
+-- its 16 lines
 abbrev pub ExampleIsSpelt : Type 0
-ExampleIsSpelt = atlas_text example ≡ codes "ltypes 1\ndimension 2\nentries 1\nentry 0 start\nsimplices 2\n0 0 0 1 1 1\n0 0 1 0 1 1\nregulators 3\nfacet 0 -1 0 wall 1 0 1\nfacet 0 1 2 wall 2 -2 1\nfacet 2 1 0 wall 1 -2 2\nform 1 -1 1\nmarks 3\ncross 0 1 0 1 1\ncross 0 1 0 -1 1\ncross 0 0 1 1 -1\nend\n"
+ExampleIsSpelt = atlas_text example ≡ codes "ltypes 2\ndimension 2\nentries 1\nentry 0 start\nsimplices 1\n0 0 0 1 1 1\nregulators 3\nfacet 0 -1 0 wall 1 0 1\nfacet 0 1 2 wall 2 -2 1\nfacet 2 1 0 wall 1 -2 2\nform 1 -1 1\nmarks 3\ncross 0 1 0 1 1\ncross 0 1 0 -1 1\ncross 0 0 1 1 -1\nend\n"

@@ -5,6 +5,7 @@ use Rattle.std.specs.declared.option.Option.TheVariants.{Some, None}
 use Rattle.std.specs.List.{flat_map}
 use Rattle.lt_lines.specs.Lines.{behind_spaces, line, numbers_line}
 use Rattle.lt_model.specs.Flat.{flat}
+use Rattle.lt_model.specs.Negatives.{half}
 use Rattle.lt_model.specs.Cones.{Verdict, wall, combination, Row, Cone}
 use Rattle.lt_model.specs.Atlases.{Mark, open_mark, cross, wide, heavy, Entry, Atlas}
 
@@ -83,9 +84,10 @@ origin_part (Some p) = from_part p.0 p.1
 abbrev pub origin_line : ℕ → Option (ℕ × ℕ) → List ℕ
 origin_line k from = start (codes "entry") (pos k ∷ []) ++ origin_part from
 
--- the entry with the number k, and the marks of its facets
+-- the entry with the number k, of whose classes half are listed, and the marks of its facets
 abbrev pub entry_text : ℕ → Entry → List Mark → List ℕ
-entry_text k e ms = origin_line k e.origin ++ triangulation_text e.triangulation ++ cone_text e.cone ++ marks_text ms
+entry_text k e ms =
+    origin_line k e.origin ++ triangulation_text (half e.triangulation) ++ cone_text e.cone ++ marks_text ms
 
 -- the entries from the number k on
 abbrev pub entries_text : List (List Mark) → ℕ → List Entry → List ℕ
@@ -96,7 +98,7 @@ entries_text marks k (e ∷ es) = entry_text k e (get_or marks k []) ++ entries_
 
 -- the version, the dimension, and the number of entries
 abbrev pub head_text : ℕ → ℕ → List ℕ
-head_text d count = line (codes "ltypes") (pos 1 ∷ []) ++ line (codes "dimension") (pos d ∷ []) ++ line (codes "entries") (pos count ∷ [])
+head_text d count = line (codes "ltypes") (pos 2 ∷ []) ++ line (codes "dimension") (pos d ∷ []) ++ line (codes "entries") (pos count ∷ [])
 
 abbrev pub atlas_text : Atlas → List ℕ
 atlas_text a = head_text a.dimension (length a.entries) ++ entries_text a.marks 0 a.entries ++ line (codes "end") []

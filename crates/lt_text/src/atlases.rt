@@ -18,7 +18,7 @@ fn gather_head<K: Sink>(block: &mut Block, out: &mut K, atlas: &Atlas) -> Result
     ensures bytes { Gathered (K.held out.old) (K.held out.new) block.old.held block.new.held result (head_text atlas.now.dimension (length atlas.now.entries)) }
     ensures cause { HasCause (K.faults out.old) (K.faults out.new) result }
 {
-    gather_count(block, out, b"ltypes", 1)?;
+    gather_count(block, out, b"ltypes", 2)?;
     gather_count(block, out, b"dimension", atlas.dimension() as u64)?;
     gather_count(block, out, b"entries", atlas.entries() as u64)
 }
@@ -46,7 +46,8 @@ fn gather_atlas<K: Sink>(block: &mut Block, out: &mut K, atlas: &Atlas) -> Resul
     gather_line(block, out, b"end", &[])
 }
 
-/// Writes the text of an atlas, version 1: its dimension, its entries with their marks, and a last line `end`.
+/// Writes the text of an atlas, version 2: its dimension, its entries with their marks, and a last line `end`. Of each pair of a class and
+/// that of its negatives the one that comes first is listed.
 /// Failed where the sink failed, which then gained a front of the text. It takes no memory.
 pub fn write_atlas<K: Sink>(atlas: &Atlas, out: &mut K) -> Result<(), Failed>
     ensures bytes { Wrote (K.held out.old) (K.held out.new) result (atlas_text atlas.now) }

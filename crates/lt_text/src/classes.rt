@@ -74,7 +74,7 @@ fn gather_classes<K: Sink>(
 }
 
 /// Writes the number of classes and the classes by way of the block.
-pub fn gather_triangulation<K: Sink>(
+fn gather_triangulation<K: Sink>(
     block: &mut Block,
     out: &mut K,
     triangulation: &Triangulation,

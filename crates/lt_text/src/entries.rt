@@ -7,8 +7,8 @@ ghost use Rattle.lt_core.specs.Marks.{mark_of, entry_of, place_of};
 ghost use Rattle.lt_text.specs.Gathered.{Gathered};
 ghost use Rattle.lt_text.specs.Texts.{from_part, origin_part, origin_line, entry_text};
 
-use crate::classes::gather_triangulation;
 use crate::gathering::{Line, gather};
+use crate::halves::gather_half;
 use crate::marks::gather_marks;
 use crate::rows::gather_cone;
 use crate::starts::{write_counted, write_list};
@@ -64,7 +64,7 @@ pub fn gather_entry<K: Sink>(
 {
     let from = entry.origin;
     gather(block, out, &Origin { number, from })?;
-    gather_triangulation(block, out, &entry.triangulation)?;
+    gather_half(block, out, &entry.triangulation)?;
     gather_cone(block, out, &entry.cone)?;
     gather_marks(block, out, marks)
 }

@@ -8,7 +8,7 @@ use Rattle.lt_model.specs.Forms.{numbers_of_form}
 use Rattle.lt_lattice.specs.Ranges.{IsWithin}
 use Rattle.lt_scan.proofs.Numerals.{one_spelling}
 use Rattle.lt_words.specs.declared.words.Command.{Command}
-use Rattle.lt_words.specs.declared.words.Command.TheVariants.{Principal, Summary, Check, Run, Drill, Locate, Cover, Relevant, Shortest, Section, Merge}
+use Rattle.lt_words.specs.declared.words.Command.TheVariants.{Principal, Summary, Check, Run, Drill, Locate, Cover, Relevant, Shortest, Section, Merge, Convert}
 use Rattle.lt_words.specs.declared.options.Setting.TheVariants.{Workers, Steps}
 use Rattle.lt_words.specs.declared.options.Part.TheVariants.{Dimension, Resume, Ending, Named, Joined}
 use Rattle.lt_words.specs.Grammar.{InRange, Item, dimension, setting, resuming, ending, setting_word, AreSpellings, numbers, times, IsChosen, MakeRun, AreGiven, SpellsForm, SpellsForms, Spells, Begins, FaultAt, most_crossings, most_of_form, most_in_section}
@@ -161,6 +161,7 @@ same_commands (Section s x) (Section t y) ws k (few, small) (less, tiny) f g =
     let (steps, forms) = same_forms s t x.items y.items ws few less small tiny f g in
     ap (λ n. Section n x) steps ∙ ap (λ (z : List (List ℤ)). Section t (record { items = z })) forms
 same_commands (Merge d) (Merge e) ws k r q f g = ap (λ n. Merge n) (same_dimension d e r q (cc))
+same_commands (Convert d) (Convert e) ws k r q f g = ap (λ n. Convert n) (same_dimension d e r q (cc))
 same_commands _ _ ws k r q f g = absurd (cc)
 
 -- words spell one command at most

@@ -10,7 +10,7 @@ use Rattle.std.specs.List.{All, flat_map}
 use Rattle.lt_model.specs.Forms.{numbers_of_form}
 use Rattle.lt_lattice.specs.Ranges.{IsWithin}
 use Rattle.lt_words.specs.declared.words.Command.{Command}
-use Rattle.lt_words.specs.declared.words.Command.TheVariants.{Principal, Summary, Check, Run, Drill, Locate, Cover, Relevant, Shortest, Section, Merge}
+use Rattle.lt_words.specs.declared.words.Command.TheVariants.{Principal, Summary, Check, Run, Drill, Locate, Cover, Relevant, Shortest, Section, Merge, Convert}
 use Rattle.lt_words.specs.declared.words.WordsError.{WordsError}
 use Rattle.lt_words.specs.declared.words.WordsError.TheVariants.{Fault}
 use Rattle.lt_words.specs.declared.words.Kind.{Kind}
@@ -35,6 +35,7 @@ kind_of (Relevant d e) = kind.Relevant
 kind_of (Shortest s q) = kind.Shortest
 kind_of (Section s fs) = kind.Section
 kind_of (Merge d) = kind.Merge
+kind_of (Convert d) = kind.Convert
 
 -- a command begins with the word of its kind
 pub first_word : (c : Command) (ws : List (List ℕ)) → Spells c ws → (rest : List (List ℕ)) × (ws ≡ kind_word (kind_of c) ∷ rest)
@@ -49,13 +50,14 @@ first_word (Relevant d k) ws e = (decimal d ∷ decimal k ∷ [], e)
 first_word (Shortest s q) ws p = (decimal p.d ∷ decimal s ∷ map signed_decimal q, p.words)
 first_word (Section s fs) ws p = (decimal p.d ∷ decimal s ∷ decimal (length fs.items) ∷ map signed_decimal (flat_map (λ q. q) fs.items), p.words)
 first_word (Merge d) ws e = (decimal d ∷ [], e)
+first_word (Convert d) ws e = (decimal d ∷ [], e)
 
 -- a number that the first and the third byte of a word give
 key : List ℕ → ℕ
 key w = get_or w 0 0 + 3 * get_or w 2 0
 
 kind_at : ℕ → Kind
-kind_at n = cond (eqb n 427) kind.Principal (cond (eqb n 442) kind.Summary (cond (eqb n 402) kind.Check (cond (eqb n 415) kind.Drill (cond (eqb n 405) kind.Locate (cond (eqb n 453) kind.Cover (cond (eqb n 438) kind.Relevant (cond (eqb n 448) kind.Shortest (cond (eqb n 412) kind.Section (cond (eqb n 451) kind.Merge kind.Run)))))))))
+kind_at n = cond (eqb n 427) kind.Principal (cond (eqb n 442) kind.Summary (cond (eqb n 402) kind.Check (cond (eqb n 415) kind.Drill (cond (eqb n 405) kind.Locate (cond (eqb n 453) kind.Cover (cond (eqb n 438) kind.Relevant (cond (eqb n 448) kind.Shortest (cond (eqb n 412) kind.Section (cond (eqb n 451) kind.Merge (cond (eqb n 429) kind.Convert kind.Run))))))))))
 
 kind_again : (k : Kind) → kind_at (key (kind_word k)) ≡ k
 unfolding kind_at key
@@ -70,6 +72,7 @@ kind_again kind.Relevant = refl
 kind_again kind.Shortest = refl
 kind_again kind.Section = refl
 kind_again kind.Merge = refl
+kind_again kind.Convert = refl
 
 -- kinds have different words
 pub same_kind : (k l : Kind) → kind_word k ≡ kind_word l → k ≡ l
@@ -101,6 +104,7 @@ IsEnd d kind.Relevant ts = (k : ℕ) × (k ≤ most_entry) × (ts ≡ decimal k 
 IsEnd d kind.Shortest ts = IsFormEnd d ts
 IsEnd d kind.Section ts = IsFormsEnd d ts
 IsEnd d kind.Merge ts = ts ≡ []
+IsEnd d kind.Convert ts = ts ≡ []
 
 -- what stands behind the first word
 abbrev IsTail : Kind → List (List ℕ) → Type 0
@@ -129,6 +133,7 @@ tail_of (Section s fs) ts (few, given) p other =
       (s, length fs.items, zs, few, given.some, subst (λ k. length fs.items ≤ k) first given.few, length-chunks n fs.items p.numbers, all_in_chunks most_in_section fs.items given.within, refl),
     )
 tail_of (Merge d) ts r e other = (d, [], r, cc, refl)
+tail_of (Convert d) ts r e other = (d, [], r, cc, refl)
 
 tail : (k : Kind) (ts : List (List ℕ)) → (k ≡ kind.Run → ⊥) → IsAccepted (kind_word k ∷ ts) → IsTail k ts
 tail k ts other (c, r, s) =
@@ -177,6 +182,7 @@ accepts kind.Section ts (d, end, r, e, (s, m, zs, few, some, most, long, small, 
       },
     )
 accepts kind.Merge ts (d, end, r, e, is) = (Merge d, r, ap (λ l. codes "merge" ∷ l) (e ∙ ap (λ l. decimal d ∷ l) is))
+accepts kind.Convert ts (d, end, r, e, is) = (Convert d, r, ap (λ l. codes "convert" ∷ l) (e ∙ ap (λ l. decimal d ∷ l) is))
 
 -- ---- faults
 
@@ -214,6 +220,7 @@ some_end kind.Relevant other = (decimal 0 ∷ [], (0, omega arith, refl))
 some_end kind.Shortest other = zero_form
 some_end kind.Section other = zero_section
 some_end kind.Merge other = ([], refl)
+some_end kind.Convert other = ([], refl)
 
 -- no dimension stands behind the first word
 pub dimension_fault : (ws : List (List ℕ)) (k : Kind) → (k ≡ kind.Run → ⊥) → HasFront ws (kind_word k ∷ []) → ((d : ℕ) → IsDimension d → HasWord ws 1 (decimal d) → ⊥) → FaultAt ws 1

@@ -6,7 +6,7 @@ use Rattle.lt_model.specs.Forms.{numbers_of_form}
 use Rattle.lt_model.specs.Limits.{step_limit}
 use Rattle.lt_lattice.specs.Ranges.{IsWithin}
 use Rattle.lt_words.specs.declared.words.Command.{Command}
-use Rattle.lt_words.specs.declared.words.Command.TheVariants.{Principal, Summary, Check, Run, Drill, Locate, Cover, Relevant, Shortest, Section, Merge}
+use Rattle.lt_words.specs.declared.words.Command.TheVariants.{Principal, Summary, Check, Run, Drill, Locate, Cover, Relevant, Shortest, Section, Merge, Convert}
 use Rattle.lt_words.specs.declared.words.WordsError.{WordsError}
 use Rattle.lt_words.specs.declared.words.WordsError.TheVariants.{Fault}
 use Rattle.lt_words.specs.declared.options.Setting.{Setting}
@@ -80,6 +80,7 @@ InRange (Relevant d entry) = IsDimension d × (entry ≤ most_entry)
 InRange (Shortest steps q) = IsWalkGiven steps q
 InRange (Section steps forms) = (steps ≤ most_crossings) × AreGiven forms.items
 InRange (Merge d) = IsDimension d
+InRange (Convert d) = IsDimension d
 
 -- ---- what stands behind the word `run`
 
@@ -198,6 +199,7 @@ Spells (Relevant d entry) ws = ws ≡ codes "relevant" ∷ decimal d ∷ decimal
 Spells (Shortest steps q) ws = SpellsForm (codes "shortest") steps q ws
 Spells (Section steps forms) ws = SpellsForms steps forms.items ws
 Spells (Merge d) ws = ws ≡ codes "merge" ∷ decimal d ∷ []
+Spells (Convert d) ws = ws ≡ codes "convert" ∷ decimal d ∷ []
 
 -- the words are those of a command
 abbrev pub IsAccepted : List (List ℕ) → Type 0

@@ -22,10 +22,11 @@ kind_word kind.Relevant = codes "relevant"
 kind_word kind.Shortest = codes "shortest"
 kind_word kind.Section = codes "section"
 kind_word kind.Merge = codes "merge"
+kind_word kind.Convert = codes "convert"
 
 -- a command with a dimension and nothing else
 abbrev pub IsAlone : Kind → Type 0
-IsAlone k = (k ≡ kind.Principal) ⊎ (k ≡ kind.Check) ⊎ (k ≡ kind.Merge)
+IsAlone k = (k ≡ kind.Principal) ⊎ (k ≡ kind.Check) ⊎ (k ≡ kind.Merge) ⊎ (k ≡ kind.Convert)
 
 -- a command with the number of crossings to a form
 abbrev pub IsOnForm : Kind → Type 0

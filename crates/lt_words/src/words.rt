@@ -73,6 +73,10 @@ pub enum Command {
     Merge {
         d: u8,
     },
+    /// `convert D`: an atlas that is read in version 1 of the text, written in version 2.
+    Convert {
+        d: u8,
+    },
 }
 
 /// Why words are no command.
@@ -98,6 +102,7 @@ enum Kind {
     Shortest,
     Section,
     Merge,
+    Convert,
 }
 
 /// The kind that a word tells.
@@ -117,6 +122,7 @@ fn kind_of(word: &str) -> Option<Kind>
         "shortest" => Some(Kind::Shortest),
         "section" => Some(Kind::Section),
         "merge" => Some(Kind::Merge),
+        "convert" => Some(Kind::Convert),
         _ => None,
     }
 }
@@ -155,6 +161,9 @@ fn read_command(words: &[&str], kind: Kind) -> Result<Command, WordsError>
             Ok(Command::Section { steps, forms })
         }
         Kind::Merge => Ok(Command::Merge {
+            d: read_alone(words)?,
+        }),
+        Kind::Convert => Ok(Command::Convert {
             d: read_alone(words)?,
         }),
     }

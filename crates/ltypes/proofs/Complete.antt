@@ -8,13 +8,13 @@ use Rattle.lt_model.specs.Walls.{IsAcross}
 use Rattle.lt_read.specs.declared.refusals.ReadError.TheVariants as read
 use Rattle.lt_read.specs.declared.refusals.Refusal.TheVariants.{TooLong}
 use Rattle.lt_words.specs.declared.words.Command.{Command}
-use Rattle.lt_words.specs.declared.words.Command.TheVariants.{Principal, Summary, Check, Run, Drill, Locate, Cover, Relevant, Shortest, Section, Merge}
+use Rattle.lt_words.specs.declared.words.Command.TheVariants.{Principal, Summary, Check, Run, Drill, Locate, Cover, Relevant, Shortest, Section, Merge, Convert}
 use Rattle.ltypes.specs.declared.status.Cause.{Cause}
 use Rattle.ltypes.specs.declared.status.Cause.TheVariants.{Finished, Done, Unfinished, Refused, Memory, ReadFault, WriteFault, NoEntry, MergeRefused, MergeStuck}
-use Rattle.ltypes.specs.Answers.{AnswersOn, AnswersCommand}
-use Rattle.ltypes.specs.Beginnings.{HasNoBeginning}
+use Rattle.ltypes.specs.Answers.{AnswersOn, AnswersConvert, AnswersCommand}
+use Rattle.ltypes.specs.Beginnings.{IsUnspelt, HasNoBeginning}
 use Rattle.ltypes.specs.Changes.{Change}
-use Rattle.ltypes.specs.Complete.{NotRisen, IsDecided, EndsRun, IsDoneOrMemory, EndsOn, EndsDrill, EndsForm, EndsRelevant, EndsMerge, Ends}
+use Rattle.ltypes.specs.Complete.{NotRisen, IsDecided, EndsRun, IsDoneOrMemory, EndsOn, EndsDrill, EndsForm, EndsRelevant, EndsMerge, EndsConvert, Ends}
 use Rattle.ltypes.specs.Drills.{AnswersDrill}
 use Rattle.ltypes.specs.Forms.{AnswersForm, IsOutput, refuses_none, IsTooLong, IsLocateText, IsCoverText, IsShortestText}
 use Rattle.ltypes.specs.Merges.{HasNoMerged, IsMergedText, AnswersMerge}
@@ -56,10 +56,13 @@ decided d steps a kept settled p queued below =
     ]
 
 -- the source can't have failed
+never_failed : (version d : ℕ) (source : Change) → NotRisen source.before source.now → IsUnspelt version d source ReadFault → ⊥
+never_failed version d source calm (read.Failed, why, e) = calm why
+never_failed version d source calm (read.Refused r, why, e) = let n = ap code_of e in omega (arith, n)
+never_failed version d source calm (read.Memory, why, e) = let n = ap code_of e in omega (arith, n)
+
 no_fault : (d : ℕ) (resume : Bool) (source : Change) → NotRisen source.before source.now → HasNoBeginning d resume source ReadFault → ⊥
-no_fault d true source calm (read.Failed, why, e) = calm why
-no_fault d true source calm (read.Refused r, why, e) = let n = ap code_of e in omega (arith, n)
-no_fault d true source calm (read.Memory, why, e) = let n = ap code_of e in omega (arith, n)
+no_fault d true source calm why = never_failed 2 d source calm why
 no_fault d false source calm e = let n = ap code_of e in omega (arith, n)
 
 pub run_ends : (d workers steps : ℕ) (resume : Bool) (source out : Change) (cause : Cause) → AnswersRun d workers steps resume source out cause → NotRisen source.before source.now → NotRisen out.before out.now →
@@ -133,6 +136,14 @@ pub merge_ends : (d : ℕ) (source out : Change) (cause : Cause) → AnswersMerg
 merge_ends d source out cause (inl answer) calm still = inl (done_or_memory (IsMergedText d source) out cause answer still)
 merge_ends d source out cause (inr (why, none)) calm still = unmerged d source cause why calm
 
+pub convert_ends : (d : ℕ) (source out : Change) (cause : Cause) → AnswersConvert d source out cause → NotRisen source.before source.now → NotRisen out.before out.now → EndsConvert d source cause
+convert_ends d source out Done answer calm still = inl (inl refl)
+convert_ends d source out (Refused r) (why, none) calm still = inr (r, refl, why)
+convert_ends d source out Memory answer calm still = inl (inr refl)
+convert_ends d source out ReadFault (why, none) calm still = absurd (never_failed 1 d source calm why)
+convert_ends d source out WriteFault (rose, front) calm still = absurd (still rose)
+convert_ends d source out _ answer calm still = absurd answer
+
 -- ---- all commands
 
 pub command_ends : (c : Command) (source out : Change) (cause : Cause) → AnswersCommand c source out cause → NotRisen source.before source.now → NotRisen out.before out.now → Ends c source out cause
@@ -147,3 +158,4 @@ command_ends (Relevant d entry) source out cause answer calm still = relevant_en
 command_ends (Shortest steps q) source out cause answer calm still = form_ends (IsShortestText q) refuses_none steps q out cause answer still
 command_ends (Section steps forms) source out cause answer calm still = form_ends (IsSectionText forms.items) (IsTooHeavy forms.items) steps (get_or forms.items 0 []) out cause answer still
 command_ends (Merge d) source out cause answer calm still = merge_ends d source out cause answer calm still
+command_ends (Convert d) source out cause answer calm still = convert_ends d source out cause answer calm still

@@ -23,8 +23,10 @@ use Rattle.lt_read.specs.declared.refusals.ReadError.TheVariants as read
 use Rattle.lt_read.specs.declared.refusals.Refusal.{Refusal}
 use Rattle.lt_read.specs.declared.refusals.Refusal.TheVariants.{TooLong}
 use Rattle.lt_read.proofs.Exact.{one_refusal_of_bytes}
-use Rattle.lt_read.proofs.Resumed.{atlases_resumed, start_free}
+use Rattle.lt_read.proofs.Resumed.{written_resumed, start_free}
 use Rattle.lt_text.specs.Texts.{atlas_text}
+use Rattle.lt_text.specs.Values.{text_in}
+use Rattle.lt_text.proofs.AsSpelt.{as_spelt}
 use Rattle.lt_words.specs.Grammar.{IsDimension}
 use Rattle.ltypes.specs.declared.status.Cause.{Cause}
 use Rattle.ltypes.specs.declared.status.Cause.TheVariants.{Refused, Memory}
@@ -70,31 +72,33 @@ pub gained_all : (old held text : List ℕ) → old ≡ [] → held ≡ old ++ t
 gained_all old held text none all = all ∙ ap (λ (l : List ℕ). l ++ text) none
 
 module _ (d : ℕ) (a : Atlas) (run : IsOfRun a) (at : a.dimension ≡ d) (few : length a.entries ≤ 100001) where
-  is_resumed : length (atlas_text a) ≤ input_limit d → IsResumed a
-  is_resumed short = atlases_resumed a run few (subst (λ (n : ℕ). length (atlas_text a) ≤ input_limit n) (sym at) short)
+  is_resumed : length (atlas_text a) ≤ input_limit d → IsResumed 2 a
+  is_resumed short = written_resumed a run few (subst (λ (n : ℕ). length (atlas_text a) ≤ input_limit n) (sym at) short)
 
   module _ (held : List ℕ) (left : Option (List ℕ)) (spelt : held ≡ atlas_text a) where
-    pub read_short : (b : Atlas) → ReadsAtlas d (Some held) left b → length (atlas_text a) ≤ input_limit d
+    pub read_short : (b : Atlas) → ReadsAtlas 2 d (Some held) left b → length (atlas_text a) ≤ input_limit d
     read_short b (bytes, taken, is) =
         let same : length bytes ≡ length (atlas_text a) = ap length (sym taken.left ∙ spelt) in
         let within = is.within in
         omega (arith, same, within)
 
     -- what is read is the atlas with its entries and crosses
-    pub read_resumed : (b : Atlas) → IsKept (IsAcross b.dimension) b → ReadsAtlas d (Some held) left b → b ≡ resumed a
-    read_resumed b kept (bytes, taken, is) =
-        let same : bytes ≡ atlas_text a = sym taken.left ∙ spelt in
-        (is_resumed (read_short b (bytes, taken, is))).only b kept.right
-        (subst (λ (n : ℕ). IsRead n (atlas_text a) b) (sym at) (subst (λ (l : List ℕ). IsRead d l b) same is))
+    pub read_resumed : (b : Atlas) → ReadsAtlas 2 d (Some held) left b → b ≡ resumed a
+    read_resumed b (bytes, taken, is) =
+        let same : bytes ≡ text_in 2 a = sym taken.left ∙ spelt ∙ as_spelt a in
+        (is_resumed (read_short b (bytes, taken, is))).only b
+        (subst (λ (n : ℕ). IsRead 2 n (text_in 2 a) b) (sym at) (subst (λ (l : List ℕ). IsRead 2 d l b) same is))
 
     -- and it is refused only where it is too long
-    pub refused_long : (before now : ℕ) (r : Refusal) → IsWhyUnread d (Some held) left before now (read.Refused r) → IsUnread d a (Refused r)
+    pub refused_long : (before now : ℕ) (r : Refusal) → IsWhyUnread 2 d (Some held) left before now (read.Refused r) → IsUnread d a (Refused r)
     refused_long before now r (bytes, taken, is) =
-        let same : bytes ≡ atlas_text a = sym taken.left ∙ spelt in
-        let first : IsFirstRefusal d (atlas_text a) r = subst (λ (l : List ℕ). IsFirstRefusal d l r) same is in
+        let same : bytes ≡ text_in 2 a = sym taken.left ∙ spelt ∙ as_spelt a in
+        let first : IsFirstRefusal 2 d (text_in 2 a) r = subst (λ (l : List ℕ). IsFirstRefusal 2 d l r) same is in
         elim (cases_lt (input_limit d) (length (atlas_text a))) [
-          | inl long ↦ subst (λ (s : Refusal). IsUnread d a (Refused s)) (one_refusal_of_bytes d (atlas_text a) TooLong r long first) long
-          | inr short ↦ absurd ((is_resumed short).accepted r (subst (λ (n : ℕ). IsFirstRefusal n (atlas_text a) r) (sym at) first))
+          | inl long ↦
+              let there : IsFirstRefusal 2 d (text_in 2 a) TooLong = subst (λ (l : List ℕ). input_limit d < length l) (as_spelt a) long in
+              subst (λ (s : Refusal). IsUnread d a (Refused s)) (one_refusal_of_bytes 2 d (text_in 2 a) TooLong r (inr refl) there first) long
+          | inr short ↦ absurd ((is_resumed short).accepted r (subst (λ (n : ℕ). IsFirstRefusal 2 n (text_in 2 a) r) (sym at) first))
         ]
 
 -- a count that stays 0 didn't rise

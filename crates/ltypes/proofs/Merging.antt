@@ -12,7 +12,7 @@ pub rest_of : (bytes : List ℕ) (place : ℕ) → take (length bytes - place) (
 rest_of bytes place = take_all (length bytes - place) (drop place bytes) (omega (arith, length-drop place bytes))
 
 -- the first part was read and the second wasn't
-pub second_unread : (d : ℕ) (bytes : List ℕ) (place : ℕ) (s : Atlas) (cause : Cause) → IsDivision bytes place → IsRead d (take place bytes) s → IsPartUnread d 2 (drop place bytes) cause → IsUnmerged d bytes cause
+pub second_unread : (d : ℕ) (bytes : List ℕ) (place : ℕ) (s : Atlas) (cause : Cause) → IsDivision bytes place → IsRead 2 d (take place bytes) s → IsPartUnread d 2 (drop place bytes) cause → IsUnmerged d bytes cause
 second_unread d bytes place s (MergeRefused p refusal) division read why = inr (why.0, (place, s, division, read, why.1))
 second_unread d bytes place s Memory division read why = why
 second_unread d bytes place s _ division read why = absurd why

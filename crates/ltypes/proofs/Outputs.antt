@@ -1,5 +1,5 @@
 -- The commands that print counts and lists have one output each.
-use Rattle.std.proofs.Common.{◌≡◌, ℕ, zero, suc, ℤ, ◌<◌, ◌≤◌, arith, List, [], ◌∷◌, ◌++◌, length, get_or, sym, ap, ap₂, subst, refl, ◌∙◌}
+use Rattle.std.proofs.Common.{◌≡◌, ℕ, zero, suc, ℤ, ◌<◌, ◌≤◌, arith, List, [], ◌∷◌, ◌++◌, length, get_or, sym, ap, ap₂, subst, refl, ◌∙◌, inl, inr}
 use Rattle.std.specs.Prelude.{codes}
 use Rattle.std.proofs.lemmas.List.{length-map}
 use Rattle.lt_model.specs.Order.{simplex_cmp}
@@ -11,13 +11,11 @@ use Rattle.lt_model.proofs.Sets.{same_members, simplex_cmp_total}
 use Rattle.lt_regulator.proofs.Distinct.{one_list}
 use Rattle.lt_model.specs.RightAtlases.{fresh_atlas}
 use Rattle.lt_core.specs.Starts.{first_entry}
-use Rattle.lt_grammar.specs.Texts.{Text}
-use Rattle.lt_text.specs.Texts.{class_numbers}
-use Rattle.lt_read.specs.Reading.{IsAtlasOf}
-use Rattle.lt_read.proofs.Read.{same_text}
+use Rattle.lt_text.specs.Texts.{atlas_text}
+use Rattle.lt_read.proofs.Read.{one_read}
 use Rattle.ltypes.specs.Texts.{type_text}
 use Rattle.ltypes.specs.Summaries.{header, entry_line, entry_summary, entry_summaries, summary_text, check_text, one_for_each}
-use Rattle.ltypes.specs.Laws.{OnePrincipalText, OneStartingSummary, OneSummaryOfBytes}
+use Rattle.ltypes.specs.Laws.{OnePrincipalText, OneStartingSummary, OneSummaryOfBytes, OneConversion}
 use Rattle.ltypes.proofs.SameFacets.{one_facets}
 use Rattle.ltypes.proofs.Summed.{same_totals}
 
@@ -102,25 +100,8 @@ one_start d a b s r =
 
 -- ---- what is read
 
-alike_read : (t : Text) (a b : Atlas) → IsAtlasOf t a → IsAtlasOf t b → HaveOneSummary a b
-alike_read t a b h k = record {
-  dimension = ap (λ (z : Atlas). z.dimension) h.fresh ∙ sym (ap (λ (z : Atlas). z.dimension) k.fresh);
-  marks = ap (λ (z : Atlas). z.marks) h.fresh ∙ sym (ap (λ (z : Atlas). z.marks) k.fresh);
-  count = h.count ∙ sym k.count;
-  each = λ i l.
-      let within : i < length t.entries = subst (λ (n : ℕ). i < n) h.count l in
-      let e = h.entries i within in
-      let f = k.entries i within in
-      let cones : (entry_at a.entries i).cone ≡ (entry_at b.entries i).cone = e.cone ∙ sym f.cone in record {
-        classes = sym (length-map (entry_at a.entries i).triangulation class_numbers) ∙ ap (length {A = List ℤ}) (e.listed ∙ sym f.listed) ∙ length-map (entry_at b.entries i).triangulation class_numbers;
-        rows = ap (λ (c : Cone). length c.rows) cones;
-        walls = ap (λ (c : Cone). facets_of c.rows) cones;
-        normal = ap (λ (c : Cone). normals c.rows) cones;
-      };
-}
-
 pub one_of_bytes : OneSummaryOfBytes
-one_of_bytes d bytes a b r s =
-    let same : s.value ≡ r.value = same_text s.value r.value s.fits r.fits (sym s.spelt ∙ r.spelt) in
-    let h = alike_read r.value a b r.atlas (subst (λ (t : Text). IsAtlasOf t b) same s.atlas) in
-    (one_summary a b h, one_check a b h)
+one_of_bytes d bytes a b r s = let same = one_read 2 d bytes a b (inr refl) r s in (ap summary_text same, ap check_text same)
+
+pub one_conversion : OneConversion
+one_conversion d bytes a b r s = ap atlas_text (one_read 1 d bytes a b (inl refl) r s)

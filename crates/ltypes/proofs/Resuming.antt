@@ -6,7 +6,7 @@ use Rattle.lt_model.specs.Logs.{IsKept}
 use Rattle.lt_model.specs.Walls.{IsAcross}
 use Rattle.lt_crew.proofs.Complete.{run_is_closed}
 use Rattle.lt_read.specs.Laws.{IsOfRun}
-use Rattle.lt_read.proofs.Resumed.{atlases_resumed}
+use Rattle.lt_read.proofs.Resumed.{written_resumed}
 use Rattle.lt_text.specs.Texts.{atlas_text}
 use Rattle.ltypes.specs.Laws.{NarrowRunsFinish, RunsAreResumed}
 use Rattle.ltypes.proofs.Started.{all_free, begins_free}
@@ -27,4 +27,4 @@ resumed_runs d workers steps resume source a (low, high) here few short =
       kept = subst (λ (z : ℕ). IsKept (IsAcross z) a) same run.kept;
       began = ap (λ (z : Atlas). stuck z.marks) run.begins ∙ begins_free d resume source here.start here.beginning;
     } in
-    atlases_resumed a of_run few (subst (λ (z : ℕ). length (atlas_text a) ≤ input_limit z) same short)
+    written_resumed a of_run few (subst (λ (z : ℕ). length (atlas_text a) ≤ input_limit z) same short)

@@ -29,5 +29,5 @@ all_free (ms ∷ mss) e zero f l k = row_free ms f (omega (arith, e)) k
 all_free (ms ∷ mss) e (suc j) f l k = all_free mss (omega (arith, e)) j f (omega (arith, l)) k
 
 pub begins_free : (d : ℕ) (resume : Bool) (source : Change) (a : Atlas) → IsBeginning d resume source a → stuck a.marks ≡ 0
-begins_free d true source a (bytes, taken, read) = read_free d bytes a read
+begins_free d true source a (bytes, taken, read) = read_free 2 d bytes a read
 begins_free d false source a (start, same) = start_free d a start

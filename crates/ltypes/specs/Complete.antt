@@ -11,11 +11,11 @@ use Rattle.lt_read.specs.declared.refusals.Refusal.{Refusal}
 use Rattle.lt_read.specs.declared.refusals.Refusal.TheVariants.{TooLong}
 use Rattle.lt_text.specs.Texts.{atlas_text}
 use Rattle.lt_words.specs.declared.words.Command.{Command}
-use Rattle.lt_words.specs.declared.words.Command.TheVariants.{Principal, Summary, Check, Run, Drill, Locate, Cover, Relevant, Shortest, Section, Merge}
+use Rattle.lt_words.specs.declared.words.Command.TheVariants.{Principal, Summary, Check, Run, Drill, Locate, Cover, Relevant, Shortest, Section, Merge, Convert}
 use Rattle.lt_words.specs.Grammar.{InRange, Spells}
 use Rattle.ltypes.specs.declared.status.Cause.{Cause}
 use Rattle.ltypes.specs.declared.status.Cause.TheVariants.{Finished, Done, Refused, Memory, NoEntry}
-use Rattle.ltypes.specs.Beginnings.{IsBeginning, HasNoBeginning}
+use Rattle.ltypes.specs.Beginnings.{IsBeginning, IsUnspelt, HasNoBeginning}
 use Rattle.ltypes.specs.Changes.{Change}
 use Rattle.ltypes.specs.Drills.{IsDrilled}
 use Rattle.ltypes.specs.Forms.{HasNoOutput, refuses_none, IsTooLong}
@@ -90,6 +90,11 @@ EndsRelevant d k source cause = EndsOn d true source cause ⊎ IsNoEntry d k sou
 abbrev pub EndsMerge : ℕ → Change → Cause → Type 0
 EndsMerge d source cause = IsDoneOrMemory cause ⊎ ((7 ≤ code_of cause) × HasNoMerged d source cause)
 
+-- the source spells no atlas in version 1, for the reason that is told
+abbrev pub EndsConvert : ℕ → Change → Cause → Type 0
+EndsConvert d source cause =
+    IsDoneOrMemory cause ⊎ ((r : Refusal) × (cause ≡ Refused r) × IsUnspelt 1 d source (Refused r))
+
 -- ---- all commands
 
 -- how each command ends
@@ -105,6 +110,7 @@ Ends (Relevant d entry) source out cause = EndsRelevant d entry source cause
 Ends (Shortest steps q) source out cause = EndsForm refuses_none steps q cause
 Ends (Section steps forms) source out cause = EndsForm (IsTooHeavy forms.items) steps (get_or forms.items 0 []) cause
 Ends (Merge d) source out cause = EndsMerge d source cause
+Ends (Convert d) source out cause = EndsConvert d source cause
 
 -- where the words are accepted, as those of a command, it ends so
 abbrev pub EndsWords : List (List ℕ) → Change → Change → Cause → Type 0

@@ -25,7 +25,9 @@ OneStartingSummary = (d : ℕ) (a b : Atlas) → IsStarting d a → IsStarting d
 
 -- the bytes that are read have one summary, and one line of totals
 abbrev pub OneSummaryOfBytes : Type 0
-OneSummaryOfBytes = (d : ℕ) (bytes : List ℕ) (a b : Atlas) → IsRead d bytes a → IsRead d bytes b → (summary_text a ≡ summary_text b) × (check_text a ≡ check_text b)
+OneSummaryOfBytes =
+    (d : ℕ) (bytes : List ℕ) (a b : Atlas) → IsRead 2 d bytes a → IsRead 2 d bytes b →
+    (summary_text a ≡ summary_text b) × (check_text a ≡ check_text b)
 
 -- a run that came to its end, met no triangulation above a limit, and whose queue is not longer than the step limit, ends with every facet crossed
 abbrev pub NarrowRunsFinish : Type 0
@@ -37,4 +39,8 @@ NarrowRunsFinish =
 abbrev pub RunsAreResumed : Type 0
 RunsAreResumed =
     (d workers steps : ℕ) (resume : Bool) (source : Change) (a : Atlas) → IsDimension d → IsRunHere d workers steps resume source a
-    → length a.entries ≤ 100001 → length (atlas_text a) ≤ input_limit d → IsResumed a
+    → length a.entries ≤ 100001 → length (atlas_text a) ≤ input_limit d → IsResumed 2 a
+
+-- bytes of version 1 have one text of version 2
+abbrev pub OneConversion : Type 0
+OneConversion = (d : ℕ) (bytes : List ℕ) (a b : Atlas) → IsRead 1 d bytes a → IsRead 1 d bytes b → atlas_text a ≡ atlas_text b

@@ -36,8 +36,8 @@ IsDivision bytes place =
 -- the parts, divided at the place, are read as these atlases
 pub record AreParts (d : ℕ) (bytes : List ℕ) (place : ℕ) (s t : Atlas) : Type 0 where
   pub division : IsDivision bytes place
-  pub first : IsRead d (take place bytes) s
-  pub second : IsRead d (drop place bytes) t
+  pub first : IsRead 2 d (take place bytes) s
+  pub second : IsRead 2 d (drop place bytes) t
 
 -- ---- what merging the parts gives
 
@@ -52,8 +52,8 @@ IsStuckIn d bytes entry m = (place : ℕ) × (s : Atlas) × (t : Atlas) × (a : 
 -- the first part is refused, or the first is read and the second is refused
 abbrev pub IsRefusedIn : ℕ → List ℕ → ℕ → Refusal → Type 0
 IsRefusedIn d bytes part refusal =
-    ((part ≡ 1) × ((place : ℕ) × IsDivision bytes place × IsFirstRefusal d (take place bytes) refusal))
-    ⊎ ((part ≡ 2) × ((place : ℕ) × (s : Atlas) × IsDivision bytes place × IsRead d (take place bytes) s × IsFirstRefusal d (drop place bytes) refusal))
+    ((part ≡ 1) × ((place : ℕ) × IsDivision bytes place × IsFirstRefusal 2 d (take place bytes) refusal))
+    ⊎ ((part ≡ 2) × ((place : ℕ) × (s : Atlas) × IsDivision bytes place × IsRead 2 d (take place bytes) s × IsFirstRefusal 2 d (drop place bytes) refusal))
 
 -- why the parts were not merged
 abbrev pub IsUnmerged : ℕ → List ℕ → Cause → Type 0
@@ -64,7 +64,7 @@ IsUnmerged d bytes _ = ⊥
 
 -- why a part was not read
 abbrev pub IsPartUnread : ℕ → ℕ → List ℕ → Cause → Type 0
-IsPartUnread d part bytes (MergeRefused p refusal) = (p ≡ part) × IsFirstRefusal d bytes refusal
+IsPartUnread d part bytes (MergeRefused p refusal) = (p ≡ part) × IsFirstRefusal 2 d bytes refusal
 IsPartUnread d part bytes Memory = Unit {0}
 IsPartUnread d part bytes _ = ⊥
 

@@ -9,8 +9,9 @@ ghost use Rattle.ltypes.specs.declared.status.Cause.TheVariants.{Words};
 ghost use Rattle.ltypes.specs.Outputs.{IsPrincipalText};
 ghost use Rattle.ltypes.specs.Answers.{AnswersCommand, AnswersWords, reads};
 ghost use Rattle.ltypes.specs.Writings.{Reports, Answers};
-ghost use Rattle.ltypes.specs.Laws.{OnePrincipalText, OneStartingSummary, OneSummaryOfBytes};
+ghost use Rattle.ltypes.specs.Laws.{OnePrincipalText, OneStartingSummary, OneSummaryOfBytes, OneConversion};
 
+use crate::convert::convert_command;
 use crate::drill::drill_command;
 use crate::forms::{cover_command, locate_command, shortest_command};
 use crate::merges::merge_command;
@@ -109,6 +110,7 @@ fn carry_out<R: Threads + Wait + Sync, S: Source, K: Sink, E: Sink, G: Gate>(
             err,
         ),
         Command::Merge { d } => merge_command(alloc, d, source, out, err),
+        Command::Convert { d } => convert_command(alloc, d, source, out, err),
     }
 }
 
@@ -126,8 +128,8 @@ fn refuse<E: Sink>(error: WordsError, err: &mut E) -> Status
 
 /// The program on the words behind its name: it reads them, does what they say, and answers how it ends.
 ///
-/// The output of the command goes to `out`, and the line of the cause to `err`. The source is read by `check`, `relevant` and `merge`, and where the words say
-/// `--resume`. Only `run` with two or more workers starts threads, waits, and passes the gate.
+/// The output of the command goes to `out`, and the line of the cause to `err`. The source is read by `check`, `relevant`, `merge` and
+/// `convert`, and where the words say `--resume`. Only `run` with two or more workers starts threads, waits, and passes the gate.
 ///
 /// Where the words are a command's and neither the source's count of faults nor that of `out` rose, the answer is complete: `run` decided each
 /// position below the step limit, and finished where it met no limit; another command is done; or the answer is a refusal with its cause, or Memory.
@@ -157,10 +159,11 @@ pub fn ltypes<R: Threads + Wait + Sync, S: Source, K: Sink, E: Sink, G: Gate>(
     }
 }
 
-/// A law, with nothing to run: `principal` and `summary` have one output at most in each dimension, and `check` and `summary --resume` one
-/// for each input, so the clauses above pin each byte.
+/// A law, with nothing to run: `principal` and `summary` have one output at most in each dimension, and `check`, `summary --resume` and
+/// `convert` one for each input, so the clauses above pin each byte.
 pub fn outputs_are_exact()
     ensures principal { OnePrincipalText }
     ensures start { OneStartingSummary }
     ensures bytes { OneSummaryOfBytes }
+    ensures conversion { OneConversion }
 {}

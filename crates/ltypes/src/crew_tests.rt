@@ -84,7 +84,7 @@ fn workers_find_the_types_of_dimension_4(rt: HostRuntime) -> Result<(), Fail> {
     let words = ["run", "4", "--workers", "4"];
     let (out, code) = told(&rt, rt.alloc(), &words, &OpenGate)?;
     assert!(rt; code == 0 && lines(out.bytes(), "entries 3") == 1);
-    assert!(rt; lines(out.bytes(), "simplices 24") == 3 && lines(out.bytes(), "cross ") == 30);
+    assert!(rt; lines(out.bytes(), "simplices 12") == 3 && lines(out.bytes(), "cross ") == 30);
     Ok(())
 }
 

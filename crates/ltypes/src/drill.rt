@@ -80,10 +80,7 @@ fn read_again(alloc: Global, d: u8, atlas: &Atlas) -> Result<Atlas, Cause>
     }
     let mut source = SliceSource::new(sink.bytes());
     match read_atlas(alloc, &mut source, d) {
-        Ok(again) => {
-            again.keeps();
-            Ok(again)
-        }
+        Ok(again) => Ok(again),
         // Bytes in memory never fail.
         Err(ReadError::Failed) => unreachable!(),
         Err(ReadError::Refused(refusal)) => Err(Cause::Refused(refusal)),

@@ -3,6 +3,7 @@
 
 mod beginning;
 mod command;
+mod convert;
 mod drill;
 mod forms;
 mod merges;

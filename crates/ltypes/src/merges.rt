@@ -65,7 +65,7 @@ fn read_input<S: Source>(alloc: Global, d: u8, source: &mut S) -> Result<Vec<u8>
 
 /// The atlas of a part of the input.
 fn read_part(alloc: Global, d: u8, part: u8, bytes: &[u8]) -> Result<Atlas, Cause>
-    ensures read { IfOk result (IsRead d bytes.now) }
+    ensures read { IfOk result (IsRead 2 d bytes.now) }
     ensures dimension { IfOk result (λ a. a.dimension ≡ d) }
     ensures unrun { IfOk result (λ a. a.log ≡ []) }
     ensures few { IfOk result (λ a. prelude.length a.entries ≤ 100001) }

@@ -8,14 +8,13 @@ use std::test::Fail;
 use std::thread::Threads;
 
 /// The lines of the whole atlas of dimension 2.
-const LINES: [&str; 17] = [
-    "ltypes 1",
+const LINES: [&str; 16] = [
+    "ltypes 2",
     "dimension 2",
     "entries 1",
     "entry 0 start",
-    "simplices 2",
+    "simplices 1",
     "0 0 0 1 1 1",
-    "0 0 1 0 1 1",
     "regulators 3",
     "facet 0 -1 0 wall 1 0 1",
     "facet 0 1 2 wall 2 -2 1",
@@ -30,25 +29,25 @@ const LINES: [&str; 17] = [
 
 /// An atlas of dimension 2 with two equivalent entries; all else is right.
 pub const TWINS: &str =
-    "ltypes 1\ndimension 2\nentries 2\nentry 0 start\nsimplices 2\n0 0 0 1 1 1\n0 0 1 0 1 1\n\
+    "ltypes 2\ndimension 2\nentries 2\nentry 0 start\nsimplices 1\n0 0 0 1 1 1\n\
     regulators 3\nfacet 0 -1 0 wall 1 0 1\nfacet 0 1 2 wall 2 -2 1\nfacet 2 1 0 wall 1 -2 2\nform 1 -1 1\n\
-    marks 3\ncross 1 1 0 0 1\nopen\nopen\nentry 1 from 0 0\nsimplices 2\n0 0 0 1 1 0\n0 0 1 -1 1 0\n\
+    marks 3\ncross 1 1 0 0 1\nopen\nopen\nentry 1 from 0 0\nsimplices 1\n0 0 0 1 1 0\n\
     regulators 3\nfacet 0 -1 2 wall 2 2 1\nfacet 0 1 0 wall 1 0 1\nfacet 2 -1 0 wall 1 2 2\nform 1 1 1\n\
     marks 3\nopen\nopen\nopen\nend\n";
 
 /// The same, whose second entry names another facet.
 const OTHER_ORIGIN: &str =
-    "ltypes 1\ndimension 2\nentries 2\nentry 0 start\nsimplices 2\n0 0 0 1 1 1\n0 0 1 0 1 1\n\
+    "ltypes 2\ndimension 2\nentries 2\nentry 0 start\nsimplices 1\n0 0 0 1 1 1\n\
     regulators 3\nfacet 0 -1 0 wall 1 0 1\nfacet 0 1 2 wall 2 -2 1\nfacet 2 1 0 wall 1 -2 2\nform 1 -1 1\n\
-    marks 3\ncross 1 1 0 0 1\nopen\nopen\nentry 1 from 0 1\nsimplices 2\n0 0 0 1 1 0\n0 0 1 -1 1 0\n\
+    marks 3\ncross 1 1 0 0 1\nopen\nopen\nentry 1 from 0 1\nsimplices 1\n0 0 0 1 1 0\n\
     regulators 3\nfacet 0 -1 2 wall 2 2 1\nfacet 0 1 0 wall 1 0 1\nfacet 2 -1 0 wall 1 2 2\nform 1 1 1\n\
     marks 3\nopen\nopen\nopen\nend\n";
 
 /// The same, whose second entry lists the classes of the first.
 const OTHER_CLASSES: &str =
-    "ltypes 1\ndimension 2\nentries 2\nentry 0 start\nsimplices 2\n0 0 0 1 1 1\n0 0 1 0 1 1\n\
+    "ltypes 2\ndimension 2\nentries 2\nentry 0 start\nsimplices 1\n0 0 0 1 1 1\n\
     regulators 3\nfacet 0 -1 0 wall 1 0 1\nfacet 0 1 2 wall 2 -2 1\nfacet 2 1 0 wall 1 -2 2\nform 1 -1 1\n\
-    marks 3\ncross 1 1 0 0 1\nopen\nopen\nentry 1 from 0 0\nsimplices 2\n0 0 0 1 1 1\n0 0 1 0 1 1\n\
+    marks 3\ncross 1 1 0 0 1\nopen\nopen\nentry 1 from 0 0\nsimplices 1\n0 0 0 1 1 1\n\
     regulators 3\nfacet 0 -1 2 wall 2 2 1\nfacet 0 1 0 wall 1 0 1\nfacet 2 -1 0 wall 1 2 2\nform 1 1 1\n\
     marks 3\nopen\nopen\nopen\nend\n";
 
@@ -115,22 +114,24 @@ pub fn changed(alloc: Global, changes: &[(usize, &str)]) -> Result<Vec<u8>, Allo
 #[test]
 fn false_lines(rt: HostRuntime) -> Result<(), Fail> {
     let rows = [
-        (1, "ltypes 1\r", "refused: syntax line 1\n"),
+        (1, "ltypes 2\r", "refused: syntax line 1\n"),
+        (1, "ltypes 1", "refused: syntax line 1\n"),
         (2, "dimension 3", "refused: syntax line 6\n"),
         (3, "entries 0", "refused: syntax line 3\n"),
-        (3, "entries 2", "refused: syntax line 17\n"),
-        (5, "simplices 3", "refused: syntax line 8\n"),
-        (5, "simplices 134217728", "refused: syntax line 8\n"),
-        (8, "regulators 2", "refused: syntax line 11\n"),
-        (8, "regulators 4", "refused: syntax line 12\n"),
-        (12, "form 1 -0 1", "refused: syntax line 12\n"),
-        (13, "marks 2", "refused: syntax line 13\n"),
-        (9, "facet 0 -1 0 wall 2 0 2", "refused: cone 0 0\n"),
-        (9, "facet 0 -1 0 wall 1 0 0", "refused: cone 0 0\n"),
-        (12, "form 2 -2 2", "refused: cone 0 3\n"),
-        (14, "cross 1 1 0 1 1", "refused: cross 0 0\n"),
-        (14, "cross 0 1 0 0 1", "refused: cross 0 0\n"),
-        (14, "cross 0 2 0 0 1", "refused: cross 0 0\n"),
+        (3, "entries 2", "refused: syntax line 16\n"),
+        (5, "simplices 2", "refused: syntax line 7\n"),
+        (5, "simplices 134217728", "refused: syntax line 7\n"),
+        (6, "0 0 1 0 1 1", "refused: not principal\n"),
+        (7, "regulators 2", "refused: syntax line 10\n"),
+        (7, "regulators 4", "refused: syntax line 11\n"),
+        (11, "form 1 -0 1", "refused: syntax line 11\n"),
+        (12, "marks 2", "refused: syntax line 12\n"),
+        (8, "facet 0 -1 0 wall 2 0 2", "refused: cone 0 0\n"),
+        (8, "facet 0 -1 0 wall 1 0 0", "refused: cone 0 0\n"),
+        (11, "form 2 -2 2", "refused: cone 0 3\n"),
+        (13, "cross 1 1 0 1 1", "refused: cross 0 0\n"),
+        (13, "cross 0 1 0 0 1", "refused: cross 0 0\n"),
+        (13, "cross 0 2 0 0 1", "refused: cross 0 0\n"),
     ];
     for (number, line, err) in &rows {
         let text = changed(rt.alloc(), &[(*number, *line)])?;
@@ -144,21 +145,21 @@ fn false_lines(rt: HostRuntime) -> Result<(), Fail> {
 fn false_texts(rt: HostRuntime) -> Result<(), Fail> {
     let alloc = rt.alloc();
     let check = ["check", "2"];
-    let exchanged = changed(alloc, &[(9, LINES[9]), (10, LINES[8])])?;
+    let exchanged = changed(alloc, &[(8, LINES[8]), (9, LINES[7])])?;
     assert!(rt; told(&rt, alloc, &check, &exchanged)?.is(3, b"", "refused: cone 0 0\n"));
     let both = changed(
         alloc,
-        &[(9, "facet 0 -1 0 wall 1 0 0"), (14, "cross 0 2 0 0 1")],
+        &[(8, "facet 0 -1 0 wall 1 0 0"), (13, "cross 0 2 0 0 1")],
     )?;
     assert!(rt; told(&rt, alloc, &check, &both)?.is(3, b"", "refused: cone 0 0\n"));
-    let other = changed(alloc, &[(6, "0 0 0 1 1 0"), (7, "0 0 1 -1 1 0")])?;
+    let other = changed(alloc, &[(6, "0 0 0 1 1 0")])?;
     assert!(rt; told(&rt, alloc, &check, &other)?.is(3, b"", "refused: not principal\n"));
     let mut longer = changed(alloc, &[])?;
     assert!(rt;
         told(&rt, alloc, &["check", "3"], &longer)?.is(3, b"", "refused: other dimension 2\n")
     );
     longer.push(b'x')?;
-    assert!(rt; told(&rt, alloc, &check, &longer)?.is(3, b"", "refused: syntax line 18\n"));
+    assert!(rt; told(&rt, alloc, &check, &longer)?.is(3, b"", "refused: syntax line 17\n"));
     let rows = [
         (TWINS, "refused: twin 0 1 1 0 1 1\n"),
         (OTHER_ORIGIN, "refused: origin 1\n"),
@@ -206,7 +207,7 @@ fn a_long_input(rt: HostRuntime) -> Result<(), Fail> {
 #[test]
 fn marks_that_are_read_as_open(rt: HostRuntime) -> Result<(), Fail> {
     for line in ["open", "heavy 0", "wide 1 0 0 0 0 0 0"] {
-        let text = changed(rt.alloc(), &[(14, line)])?;
+        let text = changed(rt.alloc(), &[(13, line)])?;
         let said = told(&rt, rt.alloc(), &["check", "2"], &text)?;
         assert!(rt; said.is(0, b"ok types 1 facets 3 crossed 2 undecided 1\n", ""));
     }
@@ -227,9 +228,9 @@ fn texts_that_are_taken_up(rt: HostRuntime) -> Result<(), Fail> {
             .bytes()
             .ends_with(b"\ntypes 1 facets 3 crossed 3 undecided 0\n")
     );
-    let open = changed(alloc, &[(14, "open")])?;
+    let open = changed(alloc, &[(13, "open")])?;
     assert!(rt; told(&rt, alloc, &resume, &open)?.is(0, &whole, ""));
-    let other = changed(alloc, &[(14, "cross 0 -1 0 -1 -1")])?;
+    let other = changed(alloc, &[(13, "cross 0 -1 0 -1 -1")])?;
     assert!(rt; told(&rt, alloc, &resume, &other)?.is(0, &other, ""));
     assert!(rt; told(&rt, alloc, &resume, b"")?.is(3, b"", "refused: syntax line 1\n"));
     let begun = told(&rt, alloc, &["run", "4", "--steps", "10"], b"")?;
@@ -246,13 +247,13 @@ fn texts_that_are_taken_up(rt: HostRuntime) -> Result<(), Fail> {
 fn faults_of_source_and_sink(rt: HostRuntime) -> Result<(), Fail> {
     let alloc = rt.alloc();
     let whole = changed(alloc, &[])?;
-    for i in 0..35_u64 {
+    for i in 0..33_u64 {
         let said = outcome(&rt, alloc, &["run", "2"], &mut SliceSource::new(b""), &[i])?;
         let held = said.out.bytes();
         assert!(rt; said.code == 6 && said.err.bytes() == b"write fault\n".as_slice());
         assert!(rt; held.len() as u64 <= 7 * i && whole.starts_with(held));
     }
-    for i in 0..36_u64 {
+    for i in 0..34_u64 {
         let bytes = Vec::from_slice(alloc, &whole)?;
         let mut source = MemorySource::new(bytes, 7, Vec::from_slice(alloc, &[i])?);
         let said = outcome(&rt, alloc, &["run", "2", "--resume"], &mut source, &[])?;
@@ -262,5 +263,39 @@ fn faults_of_source_and_sink(rt: HostRuntime) -> Result<(), Fail> {
     let mut source = MemorySource::new(bytes, 100, Vec::from_slice(alloc, &[1])?);
     let said = outcome(&rt, alloc, &["check", "2"], &mut source, &[])?;
     assert!(rt; said.is(5, b"", "read fault\n"));
+    Ok(())
+}
+
+/// The atlas of dimension 2 in version 1 of the text, where this is the mark of its first facet.
+fn first_version(alloc: Global, mark: &str) -> Result<Vec<u8>, AllocError> {
+    let start = b"ltypes 1\ndimension 2\nentries 1\nentry 0 start\nsimplices 2\n0 0 0 1 1 1\n0 0 1 0 1 1\n";
+    let cone = b"regulators 3\nfacet 0 -1 0 wall 1 0 1\nfacet 0 1 2 wall 2 -2 1\nfacet 2 1 0 wall 1 -2 2\nform 1 -1 1\n";
+    let mut text = Vec::from_slice(alloc, start)?;
+    text.extend_from_slice(cone)?;
+    text.extend_from_slice(b"marks 3\n")?;
+    text.extend_from_slice(mark.as_bytes())?;
+    text.extend_from_slice(b"\ncross 0 1 0 -1 1\ncross 0 0 1 1 -1\nend\n")?;
+    Ok(text)
+}
+
+/// A text of version 1 is read by `convert` alone, which writes version 2; wide and heavy marks become open.
+#[test]
+fn texts_of_the_first_version(rt: HostRuntime) -> Result<(), Fail> {
+    let alloc = rt.alloc();
+    let convert = ["convert", "2"];
+    let first = first_version(alloc, "cross 0 1 0 1 1")?;
+    let second = changed(alloc, &[])?;
+    assert!(rt; first.len() == 240 && second.len() == 228);
+    assert!(rt; told(&rt, alloc, &convert, &first)?.is(0, &second, ""));
+    assert!(rt; told(&rt, alloc, &convert, &second)?.is(3, b"", "refused: syntax line 1\n"));
+    assert!(rt; told(&rt, alloc, &["check", "2"], &first)?.is(3, b"", "refused: syntax line 1\n"));
+    let open = changed(alloc, &[(13, "open")])?;
+    for mark in ["open", "heavy 0", "wide 1 0 0 0 0 0 0"] {
+        let text = first_version(alloc, mark)?;
+        assert!(rt; told(&rt, alloc, &convert, &text)?.is(0, &open, ""));
+    }
+    let wrong = first_version(alloc, "cross 0 2 0 0 1")?;
+    assert!(rt; told(&rt, alloc, &convert, &wrong)?.is(3, b"", "refused: cross 0 0\n"));
+    assert!(rt; told(&rt, alloc, &["convert", "3"], &first)?.is(3, b"", "refused: other dimension 2\n"));
     Ok(())
 }

@@ -3,6 +3,7 @@ use Rattle.std.proofs.lemmas.Bool.{both_ways}
 use Rattle.lt_core.proofs.Reaching.{one_principal}
 use Rattle.lt_model.specs.Principal.{principal_numbers}
 use Rattle.lt_text.specs.Texts.{class_numbers}
+use Rattle.lt_text.specs.Values.{listed}
 use Rattle.lt_triang.proofs.SomeForm.{delaunay_dimension, some_form}
 use Rattle.lt_read.proofs.across.first.Goals as goal
 
@@ -15,4 +16,4 @@ returns-clause-form c =
 pub returns-then-not-lists-clause-why : goal.returns-then-not-lists-clause-why
 returns-then-not-lists-clause-why c t p l =
     let is = one_principal c.args.d t c.in-Ok.t p c.in-Ok.ensures.principal in
-    both_ways c.lists.result c.if-not-lists.true (c.lists.ensures.1 (ap (map class_numbers) (sym is) ∙ l))
+    both_ways c.lists.result c.if-not-lists.true (c.lists.ensures.1 (ap (λ z. map class_numbers (listed c.args.version z)) (sym is) ∙ l))

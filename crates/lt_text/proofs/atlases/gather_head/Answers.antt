@@ -7,7 +7,7 @@ use Rattle.lt_text.proofs.atlases.gather_head.Goals as goal
 
 pub returns-in_err-gather_count-clause-bytes : goal.returns-in_err-gather_count-clause-bytes
 returns-in_err-gather_count-clause-bytes g c =
-    let version = line (codes "ltypes") (pos 1 ∷ []) in
+    let version = line (codes "ltypes") (pos 2 ∷ []) in
     let dimension = line (codes "dimension") (pos c.args.atlas.now.dimension ∷ []) in
     let entries = line (codes "entries") (pos (length c.args.atlas.now.entries) ∷ []) in
     let p = err_from_is_err_and c.from_residual.result c.from_residual.ensures.1 in
@@ -15,7 +15,7 @@ returns-in_err-gather_count-clause-bytes g c =
 
 pub returns-in_err-gather_count-2-clause-bytes : goal.returns-in_err-gather_count-2-clause-bytes
 returns-in_err-gather_count-2-clause-bytes g c =
-    let version = line (codes "ltypes") (pos 1 ∷ []) in
+    let version = line (codes "ltypes") (pos 2 ∷ []) in
     let dimension = line (codes "dimension") (pos c.args.atlas.now.dimension ∷ []) in
     let entries = line (codes "entries") (pos (length c.args.atlas.now.entries) ∷ []) in
     let p = err_from_is_err_and c.from_residual-in_err-gather_count-2.result c.from_residual-in_err-gather_count-2.ensures.1 in
@@ -23,7 +23,7 @@ returns-in_err-gather_count-2-clause-bytes g c =
 
 pub returns-clause-bytes : goal.returns-clause-bytes
 returns-clause-bytes g c =
-    let version = line (codes "ltypes") (pos 1 ∷ []) in
+    let version = line (codes "ltypes") (pos 2 ∷ []) in
     let dimension = line (codes "dimension") (pos c.args.atlas.now.dimension ∷ []) in
     let entries = line (codes "entries") (pos (length c.args.atlas.now.entries) ∷ []) in
     two_parts _ _ _ _ _ _ _ _ _ (version ++ dimension) entries (ap (λ (n : ℕ). version ++ line (codes "dimension") (pos n ∷ [])) c.dimension.ensures) (ap (λ (n : ℕ). line (codes "entries") (pos n ∷ [])) c.entries.ensures)

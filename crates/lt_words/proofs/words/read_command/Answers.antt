@@ -43,9 +43,19 @@ returns-in_ok-read_alone-in-Check-clause-command c =
 pub returns-in_err-read_alone-in-Merge-clause-fault : goal.returns-in_err-read_alone-in-Merge-clause-fault
 returns-in_err-read_alone-in-Merge-clause-fault c =
     let ws = texts c.args.words.now in
-    fault_above c.from_residual-in_err-read_alone-in-Merge.result c.in_err-read_alone-in-Merge.field-0.0 ws c.from_residual-in_err-read_alone-in-Merge.ensures.1 (c.in_err-read_alone-in-Merge.ensures.fault kind.Merge (inr (inr refl)) (subst (λ k. HasFront ws (kind_word k ∷ [])) c.in-Merge.is c.requires))
+    fault_above c.from_residual-in_err-read_alone-in-Merge.result c.in_err-read_alone-in-Merge.field-0.0 ws c.from_residual-in_err-read_alone-in-Merge.ensures.1 (c.in_err-read_alone-in-Merge.ensures.fault kind.Merge (inr (inr (inl refl))) (subst (λ k. HasFront ws (kind_word k ∷ [])) c.in-Merge.is c.requires))
 
 pub returns-in_ok-read_alone-in-Merge-clause-command : goal.returns-in_ok-read_alone-in-Merge-clause-command
 returns-in_ok-read_alone-in-Merge-clause-command c =
     let ok = c.in_ok-read_alone-in-Merge.ensures in
     (ok.dimension, ok.words (kind_word kind.Merge) (subst (λ k. HasFront (texts c.args.words.now) (kind_word k ∷ [])) c.in-Merge.is c.requires))
+
+pub returns-in_err-read_alone-in-Convert-clause-fault : goal.returns-in_err-read_alone-in-Convert-clause-fault
+returns-in_err-read_alone-in-Convert-clause-fault c =
+    let ws = texts c.args.words.now in
+    fault_above c.from_residual-in_err-read_alone-in-Convert.result c.in_err-read_alone-in-Convert.field-0.0 ws c.from_residual-in_err-read_alone-in-Convert.ensures.1 (c.in_err-read_alone-in-Convert.ensures.fault kind.Convert (inr (inr (inr refl))) (subst (λ k. HasFront ws (kind_word k ∷ [])) c.in-Convert.is c.requires))
+
+pub returns-in_ok-read_alone-in-Convert-clause-command : goal.returns-in_ok-read_alone-in-Convert-clause-command
+returns-in_ok-read_alone-in-Convert-clause-command c =
+    let ok = c.in_ok-read_alone-in-Convert.ensures in
+    (ok.dimension, ok.words (kind_word kind.Convert) (subst (λ k. HasFront (texts c.args.words.now) (kind_word k ∷ [])) c.in-Convert.is c.requires))

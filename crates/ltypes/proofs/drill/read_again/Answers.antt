@@ -22,7 +22,7 @@ returns-in-Ok-read_atlas-clause-resumed c =
     let held = c.write_atlas.new.out.held in
     let none : old ≡ [] = ap (λ (s : Outgoing). s.held) c.in-Ok.ensures in
     let all : held ≡ atlas_text c.args.atlas.now = gained_all old held (atlas_text c.args.atlas.now) none c.in-Ok-write_atlas.ensures.bytes.whole in
-    read_resumed c.args.d c.args.atlas.now c.requires.run c.requires.dimension c.requires.few c.new-source.result (Some c.read_atlas.new.source) (c.new-source.ensures ∙ c.bytes-2.ensures ∙ all) c.in-Ok-read_atlas.again c.keeps.ensures.kept c.in-Ok-read_atlas.ensures.read
+    read_resumed c.args.d c.args.atlas.now c.requires.run c.requires.dimension c.requires.few c.new-source.result (Some c.read_atlas.new.source) (c.new-source.ensures ∙ c.bytes-2.ensures ∙ all) c.in-Ok-read_atlas.again c.in-Ok-read_atlas.ensures.read
 
 pub returns-in-Err-Refused-clause-why : goal.returns-in-Err-Refused-clause-why
 returns-in-Err-Refused-clause-why c =
@@ -31,4 +31,4 @@ returns-in-Err-Refused-clause-why c =
     let none : old ≡ [] = ap (λ (s : Outgoing). s.held) c.in-Ok.ensures in
     let all : held ≡ atlas_text c.args.atlas.now = gained_all old held (atlas_text c.args.atlas.now) none c.in-Ok-write_atlas.ensures.bytes.whole in
     refused_long c.args.d c.args.atlas.now c.requires.run c.requires.dimension c.requires.few c.new-source.result (Some c.read_atlas.new.source) (c.new-source.ensures ∙ c.bytes-2.ensures ∙ all) 0 0 c.in-Err-Refused.refusal
-    (subst (λ (e : ReadError). IsWhyUnread c.args.d (Some c.new-source.result) (Some c.read_atlas.new.source) 0 0 e) c.in-Err-Refused.field-0-is c.in-Err-Refused.ensures.why)
+    (subst (λ (e : ReadError). IsWhyUnread 2 c.args.d (Some c.new-source.result) (Some c.read_atlas.new.source) 0 0 e) c.in-Err-Refused.field-0-is c.in-Err-Refused.ensures.why)

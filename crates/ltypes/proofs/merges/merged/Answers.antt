@@ -16,7 +16,7 @@ returns-in-Ok-merge-clause-merged c = (
   c.division_of-place.result,
   c.in-Ok.first,
   c.in-Ok-read_part.second,
-  record { division = c.division_of-place.ensures.division; first = c.in-Ok.ensures.read; second = subst (λ (z : List ℕ). IsRead c.args.d z c.in-Ok-read_part.second) (rest_of c.args.bytes.now c.division_of-place.result) c.in-Ok-read_part.ensures.read },
+  record { division = c.division_of-place.ensures.division; first = c.in-Ok.ensures.read; second = subst (λ (z : List ℕ). IsRead 2 c.args.d z c.in-Ok-read_part.second) (rest_of c.args.bytes.now c.division_of-place.result) c.in-Ok-read_part.ensures.read },
   c.in-Ok-merge.ensures.merged,
 )
 
@@ -26,6 +26,6 @@ returns-in-Err-Stuck-clause-why c = (
   c.in-Ok.first,
   c.in-Ok-read_part.second,
   c.in-Err-Stuck._so_far,
-  record { division = c.division_of-place.ensures.division; first = c.in-Ok.ensures.read; second = subst (λ (z : List ℕ). IsRead c.args.d z c.in-Ok-read_part.second) (rest_of c.args.bytes.now c.division_of-place.result) c.in-Ok-read_part.ensures.read },
+  record { division = c.division_of-place.ensures.division; first = c.in-Ok.ensures.read; second = subst (λ (z : List ℕ). IsRead 2 c.args.d z c.in-Ok-read_part.second) (rest_of c.args.bytes.now c.division_of-place.result) c.in-Ok-read_part.ensures.read },
   subst (λ (e : MergeError). IsRefusal c.in-Ok.first c.in-Ok-read_part.second e) c.in-Err-Stuck.field-0-is c.in-Err-Stuck.ensures.refused,
 )
