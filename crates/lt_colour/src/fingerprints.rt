@@ -7,7 +7,7 @@ ghost use Rattle.lt_model.specs.Order.{number_list_cmp};
 ghost use Rattle.lt_triang.specs.Kept.{dimension_of, IsOfSomeForm};
 ghost use Rattle.lt_colour.specs.Signatures.{AreClassSignatures, IsFingerprint, FingerprintsAreInvariant};
 
-use crate::signatures::signature;
+use crate::signatures::{short_class_signature, signature};
 use arrayvec::ArrayVec;
 use lt_model::Memory;
 use lt_triang::Triangulation;
@@ -60,8 +60,55 @@ pub fn class_signatures(alloc: Global, t: &Triangulation) -> Result<Vec<ClassSig
     Ok(all)
 }
 
+/// The signature of a class in 64 bits, which is compared and moved faster.
+#[derive(Drop, PartialEq, Eq, PartialOrd, Ord)]
+struct ShortClassSignature {
+    numbers: ArrayVec<i64, 56>,
+}
+
+impl Model for ShortClassSignature {
+    ghost use Rattle.std.specs.Prelude.{List, ℤ};
+
+    ghost Value = { List ℤ };
+
+    ghost view = { λ s. s.numbers.items };
+
+    ghost inverse = { λ x. record { numbers = record { items = x } } };
+}
+
+impl ShortClassSignature {
+    /// The numbers.
+    fn numbers(&self) -> &[i64]
+        ensures { result.now ≡ self.now }
+    {
+        self.numbers.as_slice()
+    }
+}
+
+/// The signatures of the classes in 64 bits.
+fn short_class_signatures(
+    alloc: Global,
+    t: &Triangulation,
+) -> Result<Vec<ShortClassSignature>, Memory>
+    requires { IsOfSomeForm t.now }
+    ensures { IfOk result (λ all. AreClassSignatures (dimension_of t.now) t.now all.items) }
+{
+    let mut all = match Vec::with_capacity(alloc, t.len()) {
+        Ok(all) => all,
+        Err(_) => return Err(Memory),
+    };
+    for class in 0..t.len() {
+        let numbers = short_class_signature(t, class);
+        match all.push(ShortClassSignature { numbers }) {
+            Ok(()) => {}
+            Err(_) => return Err(Memory),
+        }
+    }
+    Ok(all)
+}
+
 /// The same signatures in ascending order.
-fn sorted(given: Vec<ClassSignature>) -> Vec<ClassSignature>
+fn sorted(given: Vec<ShortClassSignature>) -> Vec<ShortClassSignature>
     ensures permutation { IsPermutation given.items result.items }
     ensures ascending { IsSorted number_list_cmp result.items }
 {
@@ -71,11 +118,11 @@ fn sorted(given: Vec<ClassSignature>) -> Vec<ClassSignature>
 }
 
 /// Appends the numbers.
-fn push_numbers(all: &mut Vec<i128>, numbers: &[i128]) -> Result<(), Memory>
+fn push_numbers(all: &mut Vec<i128>, numbers: &[i64]) -> Result<(), Memory>
     ensures { IfOk result (λ _. all.new.items ≡ all.old.items ++ numbers.now) }
 {
     for number in numbers {
-        match all.push(*number) {
+        match all.push(*number as i128) {
             Ok(()) => {}
             Err(_) => return Err(Memory),
         }
@@ -84,10 +131,13 @@ fn push_numbers(all: &mut Vec<i128>, numbers: &[i128]) -> Result<(), Memory>
 }
 
 /// The numbers of the signatures, one after the other.
-fn joined(alloc: Global, signatures: &[ClassSignature]) -> Result<Vec<i128>, Memory>
+fn joined(alloc: Global, signatures: &[ShortClassSignature]) -> Result<Vec<i128>, Memory>
     ensures { IfOk result (λ all. all.items ≡ flat signatures.now) }
 {
-    let mut all = Vec::new(alloc);
+    let mut all = match Vec::with_capacity(alloc, signatures.len().saturating_mul(56)) {
+        Ok(all) => all,
+        Err(_) => return Err(Memory),
+    };
     for signature in signatures {
         push_numbers(&mut all, signature.numbers())?;
     }
@@ -101,7 +151,7 @@ pub fn fingerprint(alloc: Global, t: &Triangulation) -> Result<Vec<i128>, Memory
     requires { IsOfSomeForm t.now }
     ensures { IfOk result (λ f. IsFingerprint (dimension_of t.now) t.now f.items) }
 {
-    let ascending = sorted(class_signatures(alloc, t)?);
+    let ascending = sorted(short_class_signatures(alloc, t)?);
     joined(alloc, ascending.as_slice())
 }
 

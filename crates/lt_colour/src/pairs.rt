@@ -154,7 +154,8 @@ pub fn short_signature(t: &Triangulation, class: usize, facet: usize) -> ShortSi
     ensures { IsPairSignature (dimension_of t.now) t.now (get_or t.now class []) facet result }
 {
     let _dimension = t.dimension();
-    let expression = &t.outer(class, facet).expression;
+    let outer = t.outer(class, facet);
+    let expression = &outer.expression;
     signature_from(expression.scale, expression.coefficients.as_slice(), facet)
 }
 

@@ -44,25 +44,47 @@ fn sort(pairs: &mut [ShortSignature])
 }
 
 /// Appends the numbers.
-fn push_numbers(all: &mut ArrayVec<i128, 56>, numbers: &[i64])
+fn push_numbers(all: &mut ArrayVec<i64, 56>, numbers: &[i64])
     requires { length all.old.items + length numbers.now ≤ 56 }
     ensures { all.new.items ≡ all.old.items ++ numbers.now }
 {
     for number in numbers {
-        all.push(*number as i128);
+        all.push(*number);
     }
 }
 
 /// The numbers of the signatures, one after the other.
-fn joined(pairs: &[ShortSignature]) -> ArrayVec<i128, 56>
+fn joined(pairs: &[ShortSignature]) -> ArrayVec<i64, 56>
     requires { length pairs.now ≤ 7 }
     ensures { result.items ≡ flat pairs.now }
 {
-    let mut all: ArrayVec<i128, 56> = ArrayVec::new();
+    let mut all: ArrayVec<i64, 56> = ArrayVec::new();
     for pair in pairs {
         push_numbers(&mut all, pair.numbers());
     }
     all
+}
+
+/// The same numbers in 128 bits.
+fn widened(numbers: &[i64]) -> ArrayVec<i128, 56>
+    requires { length numbers.now ≤ 56 }
+    ensures { result.items ≡ numbers.now }
+{
+    let mut all: ArrayVec<i128, 56> = ArrayVec::new();
+    for number in numbers {
+        all.push(*number as i128);
+    }
+    all
+}
+
+/// The signature of the class at place `class`, in 64 bits.
+pub fn short_class_signature(t: &Triangulation, class: usize) -> ArrayVec<i64, 56>
+    requires class { class < length t.now }
+    ensures { IsClassSignature (dimension_of t.now) t.now (get_or t.now class []) result.items }
+{
+    let mut pairs = short_signatures(t, class);
+    sort(pairs.as_mut_slice());
+    joined(pairs.as_slice())
 }
 
 /// The signature of the class at place `class`: the signatures of the pairs at its facets in ascending order, one after the other. Each has
@@ -72,9 +94,7 @@ pub fn signature(t: &Triangulation, class: usize) -> ArrayVec<i128, 56>
     requires class { class < length t.now }
     ensures { IsClassSignature (dimension_of t.now) t.now (get_or t.now class []) result.items }
 {
-    let mut pairs = short_signatures(t, class);
-    sort(pairs.as_mut_slice());
-    joined(pairs.as_slice())
+    widened(short_class_signature(t, class).as_slice())
 }
 
 /// A matrix that carries one Delaunay triangulation onto another takes each member to one with the same signature.

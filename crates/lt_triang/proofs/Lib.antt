@@ -17,3 +17,4 @@ pub mod Coded
 pub mod Indices
 pub mod Rowed
 pub mod Itself
+pub mod Walled

@@ -67,13 +67,3 @@ HasOuter t s a = IsOuterIn s (get_or t a.neighbour.class []) a.neighbour.shift a
 pub record IsKept (d : ℕ) (t : List (List (List ℤ))) (s : List (List ℤ)) (i : ℕ) (a : Across) : Type 0 where
   pub first : IsFirstAcross d t s i a.neighbour.class a.neighbour.shift a.neighbour.vertex
   pub outer : HasOuter t s a
-
--- one for each facet of the class s: the first member across it
-pub record IsRow (d : ℕ) (t : List (List (List ℤ))) (s : List (List ℤ)) (row : List Across) : Type 0 where
-  pub count : length row ≡ suc d
-  pub each : (i : ℕ) (e : Across) → i < suc d → IsKept d t s i (get_or row i e)
-
--- the first members across the facets of the first n classes
-pub record AreRows (d : ℕ) (t : List (List (List ℤ))) (n : ℕ) (rows : List (List Across)) : Type 0 where
-  pub count : length rows ≡ n
-  pub each : (m : ℕ) → m < n → IsRow d t (get_or t m []) (get_or rows m [])

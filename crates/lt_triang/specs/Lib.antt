@@ -4,3 +4,4 @@ pub mod Across
 pub mod Kept
 pub mod Codes
 pub mod Indexed
+pub mod Walled

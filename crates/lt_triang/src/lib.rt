@@ -12,6 +12,7 @@ mod rows;
 mod spans;
 mod triangulations;
 mod vertices;
+mod walls;
 
 pub use classes::{Class, Flat};
 pub use errors::TriangError;

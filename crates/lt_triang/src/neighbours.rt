@@ -71,18 +71,6 @@ pub struct Across {
     pub outer: Outer,
 }
 
-impl Across {
-    /// The same neighbour and vertex.
-    pub fn copy(&self) -> Across
-        ensures { result ≡ self.now }
-    {
-        Across {
-            neighbour: self.neighbour.copy(),
-            outer: self.outer.copy(),
-        }
-    }
-}
-
 /// The vertex at place `k` of facet `i`.
 pub fn facet_vertex(s: &[Point], i: usize, k: usize) -> &Point
     requires high { length s.now ≤ 7 }
@@ -130,7 +118,7 @@ fn are_parallel(d: usize, s: &[Point], i: usize, next: &[Point], j: usize) -> bo
 }
 
 /// The shift that takes the first vertex of facet `j` of the one class to that of facet `i` of the other.
-fn shift_of(d: usize, s: &[Point], i: usize, next: &[Point], j: usize) -> Point
+pub fn shift_of(d: usize, s: &[Point], i: usize, next: &[Point], j: usize) -> Point
     requires facet { HasFacet d s.now i }
     requires facet_too { HasFacet d next.now j }
     requires near { AreWithin (span_limit d) s.now }
@@ -144,7 +132,7 @@ fn shift_of(d: usize, s: &[Point], i: usize, next: &[Point], j: usize) -> Point
 }
 
 /// The vertex moved by the shift.
-fn vertex_moved(next: &[Point], j: usize, by: &Point) -> Point
+pub fn vertex_moved(next: &[Point], j: usize, by: &Point) -> Point
     requires place { j < length next.now }
     requires dimension { AllOfDimension (length by.now) next.now }
     requires within { All (IsWithin (2 ^ 20)) (plus (get_or next.now j []) by.now) }

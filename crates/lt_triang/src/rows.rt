@@ -1,15 +1,18 @@
 //! The neighbours at the facets of each class.
 
-ghost use Rattle.std.specs.Prelude.{◌≡◌, ◌<◌, ◌≤◌, suc, ℕ, List, [], length, get_or, IfOk};
+ghost use Rattle.std.specs.Prelude.{◌≡◌, ◌<◌, ◌≤◌, ◌++◌, ◌∷◌, suc, ℕ, List, [], length, get_or, IfOk};
 ghost use Rattle.lt_triang.specs.Across.{IsFirstOpenOf, IsFirstOpen};
-ghost use Rattle.lt_triang.specs.Indexed.{buckets_of, IsIndex, IsRow, AreRows};
+ghost use Rattle.lt_triang.specs.Indexed.{buckets_of, IsIndex};
 ghost use Rattle.lt_triang.specs.Kept.{AreClasses};
+ghost use Rattle.lt_triang.specs.Walled.{IsWallOf, IsRow, AreRows};
+ghost use Rattle.lt_triang.specs.declared.walls.Wall.{Wall};
 ghost use Rattle.lt_triang.specs.declared.errors.TriangError.TheVariants.{OpenFacet};
 
 use crate::classes::Class;
 use crate::errors::TriangError;
 use crate::indexes::{first_across, index_of};
 use crate::neighbours::{Across, class_at};
+use crate::walls::Wall;
 use lt_model::Memory;
 use std::alloc::Global;
 use std::marker::Model;
@@ -17,21 +20,21 @@ use std::marker::Model;
 /// The neighbours at the facets of a class.
 #[derive(Drop)]
 pub struct Row {
-    facets: Vec<Across>,
+    facets: Vec<Wall>,
 }
 
 impl Model for Row {
     ghost use Rattle.std.specs.Prelude.{List};
-    ghost use Rattle.lt_triang.specs.declared.neighbours.Across.{Across};
+    ghost use Rattle.lt_triang.specs.declared.walls.Wall.{Wall};
 
-    ghost Value = { List Across };
+    ghost Value = { List Wall };
 
     ghost view = { λ r. r.facets.items };
 }
 
 impl Row {
     /// The neighbour at facet `i`.
-    pub fn at(&self, i: usize) -> &Across
+    pub fn at(&self, i: usize) -> &Wall
         requires { i < length self.now }
         ensures { result.now ≡ get_or self.now i result.now }
     {
@@ -46,13 +49,26 @@ impl Row {
             Ok(facets) => facets,
             Err(_) => return Err(Memory),
         };
-        for across in &self.facets {
-            match facets.push(across.copy()) {
+        for wall in &self.facets {
+            match facets.push(wall.copy()) {
                 Ok(()) => {}
                 Err(_) => return Err(Memory),
             }
         }
         Ok(Row { facets })
+    }
+}
+
+/// Appends the neighbour as it is kept.
+fn push_wall(facets: &mut Vec<Wall>, across: &Across) -> Result<(), Memory>
+    ensures { IfOk result (λ _. (w : Wall) × IsWallOf across.now w × (facets.new.items ≡ facets.old.items ++ w ∷ [])) }
+{
+    match Wall::of(across) {
+        Some(wall) => match facets.push(wall) {
+            Ok(()) => Ok(()),
+            Err(_) => Err(Memory),
+        },
+        None => Err(Memory),
     }
 }
 
@@ -77,7 +93,7 @@ fn row_of(
     };
     for i in 0..d + 1 {
         match first_across(d, classes, index, n, &columns, i) {
-            Some(found) => match facets.push(found) {
+            Some(found) => match push_wall(&mut facets, &found) {
                 Ok(()) => {}
                 Err(_) => return Err(TriangError::Memory),
             },

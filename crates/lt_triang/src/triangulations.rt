@@ -9,6 +9,7 @@ ghost use Rattle.lt_model.specs.Simplices.{IsClass, IsExpression};
 ghost use Rattle.lt_model.specs.Cones.{AreBelow};
 ghost use Rattle.lt_model.specs.Vectors.{IsPrimitive};
 ghost use Rattle.lt_triang.specs.Indexed.{IsKept};
+ghost use Rattle.lt_triang.specs.Walled.{IsWall};
 ghost use Rattle.lt_triang.specs.Across.{IsFirstAcross, IsOpenAnswer, IsOuterVertex};
 ghost use Rattle.lt_triang.specs.Kept.{IsTriangulation, AreClasses, dimension_of};
 ghost use Rattle.lt_lattice.specs.Ranges.{IsWithin};
@@ -16,9 +17,10 @@ ghost use Rattle.lt_triang.specs.declared.errors.TriangError.TheVariants.{OpenFa
 
 use crate::classes::Class;
 use crate::errors::TriangError;
-use crate::neighbours::{Across, Neighbour, Outer, member};
+use crate::neighbours::{Across, Neighbour, Outer, member, shift_of, vertex_moved};
 use crate::rows::{Row, rows_copy, rows_of};
 use crate::spans::span_of;
+use crate::walls::Wall;
 use lt_lattice::Point;
 use lt_model::Memory;
 use std::alloc::Global;
@@ -35,7 +37,7 @@ pub struct Triangulation {
 impl Model for Triangulation {
     ghost use Rattle.std.specs.Prelude.{List, ℤ, ℕ, length};
     ghost use Rattle.lt_triang.specs.Kept.{IsTriangulation};
-    ghost use Rattle.lt_triang.specs.Indexed.{AreRows};
+    ghost use Rattle.lt_triang.specs.Walled.{AreRows};
 
     ghost Value = { List (List (List ℤ)) };
 
@@ -139,10 +141,10 @@ impl Triangulation {
     }
 
     /// The neighbour at facet `facet` of the class at place `class`, as it is kept.
-    fn kept(&self, class: usize, facet: usize) -> &Across
+    fn wall(&self, class: usize, facet: usize) -> &Wall
         requires class { class < length self.now }
         requires facet { facet < length (get_or self.now class []) }
-        ensures { IsKept (length (get_or self.now class []) - 1) self.now (get_or self.now class []) facet result.now }
+        ensures { IsWall (length (get_or self.now class []) - 1) self.now (get_or self.now class []) facet result.now }
     {
         self.rows[class].at(facet)
     }
@@ -153,23 +155,58 @@ impl Triangulation {
         requires facet { facet < length (get_or self.now class []) }
         ensures { IsFirstAcross (length (get_or self.now class []) - 1) self.now (get_or self.now class []) facet result.class result.shift result.vertex }
     {
-        self.kept(class, facet).neighbour.copy()
+        let d = usize::from(self.dimension());
+        let wall = self.wall(class, facet);
+        let next = wall.class as usize;
+        let vertex = usize::from(wall.vertex);
+        let classes = self.classes.as_slice();
+        Neighbour {
+            class: next,
+            shift: shift_of(
+                d,
+                member(classes, class),
+                facet,
+                member(classes, next),
+                vertex,
+            ),
+            vertex,
+        }
+    }
+
+    /// The neighbour with its vertex outside.
+    fn across(&self, class: usize, facet: usize) -> Across
+        requires class { class < length self.now }
+        requires facet { facet < length (get_or self.now class []) }
+        ensures { IsKept (length (get_or self.now class []) - 1) self.now (get_or self.now class []) facet result }
+    {
+        let _dimension = self.dimension();
+        let neighbour = self.neighbour(class, facet);
+        let next = member(self.classes.as_slice(), neighbour.class);
+        let vertex = vertex_moved(next, neighbour.vertex, &neighbour.shift);
+        let expression = match self.wall(class, facet).expression() {
+            Some(expression) => expression,
+            None => self.class(class).expression(&vertex),
+        };
+        Across {
+            neighbour,
+            outer: Outer { vertex, expression },
+        }
     }
 
     /// The vertex of the neighbour at facet `facet` of the class at place `class` that lies outside the class, and its expression over
     /// the class in lowest terms.
-    pub fn outer(&self, class: usize, facet: usize) -> &Outer
+    pub fn outer(&self, class: usize, facet: usize) -> Outer
         requires class { class < length self.now }
         requires facet { facet < length (get_or self.now class []) }
-        ensures vertex { IsOuterVertex (dimension_of self.now) self.now (get_or self.now class []) facet result.now.vertex }
-        ensures dimension { length result.now.vertex ≡ dimension_of self.now }
-        ensures near { All (IsWithin (2 * span_limit (dimension_of self.now))) result.now.vertex }
-        ensures expression { IsExpression (get_or self.now class []) result.now.vertex result.now.expression.scale result.now.expression.coefficients.items }
-        ensures primitive { IsPrimitive (result.now.expression.scale ∷ result.now.expression.coefficients.items) }
-        ensures below { AreBelow (2 ^ 59) (result.now.expression.scale ∷ result.now.expression.coefficients.items) }
+        ensures vertex { IsOuterVertex (dimension_of self.now) self.now (get_or self.now class []) facet result.vertex }
+        ensures dimension { length result.vertex ≡ dimension_of self.now }
+        ensures near { All (IsWithin (2 * span_limit (dimension_of self.now))) result.vertex }
+        ensures expression { IsExpression (get_or self.now class []) result.vertex result.expression.scale result.expression.coefficients.items }
+        ensures primitive { IsPrimitive (result.expression.scale ∷ result.expression.coefficients.items) }
+        ensures below { AreBelow (2 ^ 59) (result.expression.scale ∷ result.expression.coefficients.items) }
     {
         let _dimension = self.dimension();
-        &self.kept(class, facet).outer
+        self.across(class, facet).outer
     }
 
     /// The vertex of the neighbour at facet `facet` of the class at place `class` that lies outside the class.
@@ -180,7 +217,7 @@ impl Triangulation {
         ensures dimension { length result ≡ dimension_of self.now }
         ensures near { All (IsWithin (2 * span_limit (dimension_of self.now))) result }
     {
-        self.outer(class, facet).vertex.copy()
+        self.outer(class, facet).vertex
     }
 
     /// A copy, or Memory where memory was refused.

@@ -1,4 +1,4 @@
-use Rattle.lt_triang.specs.Indexed.{AreRows}
+use Rattle.lt_triang.specs.Walled.{AreRows}
 use Rattle.lt_triang.proofs.rows.rows_of.Given as goal
 
 abbrev pub invariant-loop-n : goal.invariant-loop-n

@@ -1,5 +1,5 @@
 use Rattle.std.proofs.Common.{◌≡◌, take}
 use Rattle.lt_triang.proofs.rows.Row.try_copy.Given as goal
 
-abbrev pub invariant-loop-across : goal.invariant-loop-across
-invariant-loop-across l = l.facets.items ≡ take l.across-index l.across-items
+abbrev pub invariant-loop-wall : goal.invariant-loop-wall
+invariant-loop-wall l = l.facets.items ≡ take l.wall-index l.wall-items

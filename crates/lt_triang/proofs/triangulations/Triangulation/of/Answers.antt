@@ -1,7 +1,7 @@
 use Rattle.std.proofs.Common.{arith, ◌≡◌, ◌-◌, suc, ℕ, length, get_or, [], sym, subst}
 use Rattle.lt_model.specs.Simplices.{IsClass}
 use Rattle.lt_triang.specs.Kept.{AreClasses}
-use Rattle.lt_triang.specs.Indexed.{AreRows}
+use Rattle.lt_triang.specs.Walled.{AreRows}
 use Rattle.lt_triang.proofs.Made.{same_classes, occupied_from, triangulation_made}
 use Rattle.lt_triang.proofs.Rowed.{rows_across}
 use Rattle.lt_triang.proofs.triangulations.Triangulation.of.Goals as goal

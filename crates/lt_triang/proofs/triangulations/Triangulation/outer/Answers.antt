@@ -20,11 +20,11 @@ told d t m i n p j h lm li f =
 
 pub returns : goal.returns
 returns c =
-    let a = c.kept.result.now in
+    let a = c.across.result in
     let t = c.args.self.now in
-    let f = told c.dimension-dimension.result t c.args.class c.args.facet a.neighbour.class a.neighbour.shift a.neighbour.vertex c.dimension-dimension.ensures c.requires.class c.requires.facet c.kept.ensures.first in
+    let f = told c.dimension-dimension.result t c.args.class c.args.facet a.neighbour.class a.neighbour.shift a.neighbour.vertex c.dimension-dimension.ensures c.requires.class c.requires.facet c.across.ensures.first in
     let e : c.dimension-dimension.result ≡ dimension_of t = dimension_is c.dimension-dimension.result t c.dimension-dimension.ensures in
-    let o = c.kept.ensures.outer in
+    let o = c.across.ensures.outer in
     record {
       vertex = subst (λ (w : List ℤ). IsOuterVertex (dimension_of t) t (get_or t c.args.class []) c.args.facet w) (sym o.vertex) (subst (λ (n : ℕ). IsOuterVertex n t (get_or t c.args.class []) c.args.facet (plus (get_or (get_or t a.neighbour.class []) a.neighbour.vertex []) a.neighbour.shift)) e f.vertex);
       dimension = ap length o.vertex ∙ f.dimension ∙ e;

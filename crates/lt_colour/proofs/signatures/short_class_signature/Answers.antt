@@ -3,7 +3,7 @@ use Rattle.std.proofs.lemmas.List.{take_at}
 use Rattle.std.proofs.lemmas.List.Sorted.{length_permutation}
 use Rattle.std.specs.List.Sorted.{IsPermutation}
 use Rattle.lt_model.specs.Flat.{flat}
-use Rattle.lt_colour.proofs.signatures.signature.Goals as goal
+use Rattle.lt_colour.proofs.signatures.short_class_signature.Goals as goal
 
 pub returns : goal.returns
 returns c =

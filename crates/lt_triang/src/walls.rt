@@ -1,0 +1,91 @@
+//! Neighbours as they are kept, in little room.
+
+ghost use Rattle.std.specs.Prelude.{◌≡◌, ◌≤◌, ◌∷◌, length, IfSome};
+ghost use Rattle.lt_triang.specs.Walled.{AreKept, IsWallOf};
+
+use crate::expressions::Expression;
+use crate::neighbours::Across;
+use arrayvec::ArrayVec;
+
+/// A neighbour at a facet as it is kept: its shift and its vertex outside follow from the classes.
+#[derive(Drop)]
+pub struct Wall {
+    /// The place of the member among the classes.
+    pub class: u32,
+    /// The place of the vertex that lies on the other side of the facet.
+    pub vertex: u8,
+    /// The numbers of the expression of that vertex, the scale first, or none where one of them doesn't fit 8 bits.
+    pub numbers: ArrayVec<i8, 8>,
+}
+
+/// The numbers of an expression in 8 bits, or none where one of them doesn't fit.
+fn narrow(scale: i128, coefficients: &[i128]) -> ArrayVec<i8, 8>
+    requires { length coefficients.now ≤ 7 }
+    ensures { AreKept (scale ∷ coefficients.now) result.items }
+{
+    let mut numbers: ArrayVec<i8, 8> = ArrayVec::new();
+    match i8::try_from(scale) {
+        Ok(number) => numbers.push(number),
+        Err(_) => return ArrayVec::new(),
+    }
+    for coefficient in coefficients {
+        match i8::try_from(*coefficient) {
+            Ok(number) => numbers.push(number),
+            Err(_) => return ArrayVec::new(),
+        }
+    }
+    numbers
+}
+
+impl Wall {
+    /// The neighbour as it is kept, or None where its place doesn't fit.
+    pub fn of(across: &Across) -> Option<Wall>
+        ensures { IfSome result (IsWallOf across.now) }
+    {
+        let expression = &across.outer.expression;
+        match (
+            u32::try_from(across.neighbour.class),
+            u8::try_from(across.neighbour.vertex),
+        ) {
+            (Ok(class), Ok(vertex)) => Some(Wall {
+                class,
+                vertex,
+                numbers: narrow(expression.scale, expression.coefficients.as_slice()),
+            }),
+            _ => None,
+        }
+    }
+
+    /// The same neighbour.
+    pub fn copy(&self) -> Wall
+        ensures { result ≡ self.now }
+    {
+        let mut numbers: ArrayVec<i8, 8> = ArrayVec::new();
+        for number in self.numbers.as_slice() {
+            numbers.push(*number);
+        }
+        Wall {
+            class: self.class,
+            vertex: self.vertex,
+            numbers,
+        }
+    }
+
+    /// The expression, or None where its numbers aren't kept.
+    pub fn expression(&self) -> Option<Expression>
+        ensures { IfSome result (λ e. self.now.numbers.items ≡ e.scale ∷ e.coefficients.items) }
+    {
+        let numbers = self.numbers.as_slice();
+        if numbers.is_empty() {
+            return None;
+        }
+        let mut coefficients: ArrayVec<i128, 7> = ArrayVec::new();
+        for k in 1..numbers.len() {
+            coefficients.push(i128::from(numbers[k]));
+        }
+        Some(Expression {
+            scale: i128::from(numbers[0]),
+            coefficients,
+        })
+    }
+}
