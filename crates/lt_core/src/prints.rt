@@ -9,22 +9,20 @@ ghost use Rattle.lt_core.specs.Prints.{lists_of};
 
 use crate::marks::Entry;
 use lt_colour::fingerprint;
+use lt_model::Memory;
 use lt_triang::Triangulation;
-use std::alloc::{AllocError, Global};
+use std::alloc::Global;
 
 /// The fingerprint of a triangulation.
-pub fn print_of(alloc: Global, t: &Triangulation) -> Result<Vec<i128>, AllocError>
+pub fn print_of(alloc: Global, t: &Triangulation) -> Result<Vec<i128>, Memory>
     requires { IsOfSomeForm t.now }
     ensures { IfOk result (λ p. IsFingerprint (dimension_of t.now) t.now p.items) }
 {
-    match fingerprint(alloc, t) {
-        Ok(print) => Ok(print),
-        Err(_) => Err(AllocError),
-    }
+    fingerprint(alloc, t)
 }
 
 /// The fingerprints of the triangulations of the entries.
-pub fn prints_of(alloc: Global, entries: &[Entry]) -> Result<Vec<Vec<i128>>, AllocError>
+pub fn prints_of(alloc: Global, entries: &[Entry]) -> Result<Vec<Vec<i128>>, Memory>
     requires { (k : ℕ) → k < length entries.now → IsOfSomeForm (entry_at (map entry_of entries.now) k).triangulation }
     ensures count { IfOk result (λ v. length (lists_of v.items) ≡ length entries.now) }
     ensures each { IfOk result (λ v. (k : ℕ) → k < length entries.now → let t = (entry_at (map entry_of entries.now) k).triangulation in IsFingerprint (dimension_of t) t (get_or (lists_of v.items) k [])) }
