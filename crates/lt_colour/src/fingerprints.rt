@@ -46,16 +46,10 @@ pub fn class_signatures(alloc: Global, t: &Triangulation) -> Result<Vec<ClassSig
     requires { IsOfSomeForm t.now }
     ensures { IfOk result (λ all. AreClassSignatures (dimension_of t.now) t.now all.items) }
 {
-    let mut all = match Vec::with_capacity(alloc, t.len()) {
-        Ok(all) => all,
-        Err(_) => return Err(Memory),
-    };
+    let mut all = Vec::with_capacity(alloc, t.len())?;
     for class in 0..t.len() {
         let numbers = signature(t, class);
-        match all.push(ClassSignature { numbers }) {
-            Ok(()) => {}
-            Err(_) => return Err(Memory),
-        }
+        all.push(ClassSignature { numbers })?;
     }
     Ok(all)
 }
@@ -122,10 +116,7 @@ fn push_numbers(all: &mut Vec<i128>, numbers: &[i64]) -> Result<(), Memory>
     ensures { IfOk result (λ _. all.new.items ≡ all.old.items ++ numbers.now) }
 {
     for number in numbers {
-        match all.push(*number as i128) {
-            Ok(()) => {}
-            Err(_) => return Err(Memory),
-        }
+        all.push(*number as i128)?;
     }
     Ok(())
 }

@@ -1,6 +1,7 @@
 -- What is wrong with a cone.
 use Rattle.std.specs.Prelude.{◌≡◌, ◌⊎◌, ◌<◌, ◌≤◌, ◌+◌, ◌^◌, ℕ, ℤ, List, [], length, get_or}
 use Rattle.lt_model.specs.Cones.{Row, Cone, IsRightVerdict, sum_of_walls}
+use Rattle.lt_model.specs.Forms.{numbers_of_form}
 use Rattle.lt_model.specs.Limits.{weight, weight_limit}
 use Rattle.lt_model.specs.Walls.{AreRegulators}
 use Rattle.lt_lp.specs.Reduced.{IsReduced}
@@ -17,7 +18,8 @@ IsFault d ns c Memory = Unit
 IsFault d ns c (Wrong row) =
     ((weight_limit ≤ weight d ns) × (row ≡ length ns + 1))
     ⊎ ((weight d ns < weight_limit) × (row < length ns) × ((k : ℕ) → k < row → IsRowOf d ns c.rows k) × (IsRowOf d ns c.rows row → ⊥))
-    ⊎ ((weight d ns < weight_limit) × (row ≡ length ns) × ((k : ℕ) → k < row → IsRowOf d ns c.rows k) × ((length c.rows ≡ length ns) × IsReduced (sum_of_walls c.rows) c.form → ⊥))
+    ⊎ ((weight d ns < weight_limit) × (row ≡ length ns) × ((k : ℕ) → k < row → IsRowOf d ns c.rows k)
+        × ((length c.rows ≡ length ns) × IsReduced (sum_of_walls (numbers_of_form d) c.rows) c.form → ⊥))
 
 -- the triangulation has the list of its regulators, and the fault is one of it
 abbrev pub HasFault : ℕ → List (List (List ℤ)) → Cone → ConeFault → Type 0

@@ -19,8 +19,9 @@ use crate::prints::{Print, digest, print_of, prints_of};
 use crate::refusals::{Already, Back, Missed, Why};
 use lt_lattice::Matrix;
 use lt_lp::Cone;
+use lt_model::Memory;
 use lt_triang::Triangulation;
-use std::alloc::{AllocError, Global};
+use std::alloc::Global;
 use std::marker::Model;
 
 /// An atlas whose entries and marks are right, with the log of what was recorded.
@@ -55,7 +56,7 @@ impl Atlas {
         dimension: u8,
         entries: Vec<Entry>,
         marks: Vec<Vec<Mark>>,
-    ) -> Result<Atlas, AllocError>
+    ) -> Result<Atlas, Memory>
         requires right { AreRight (IsAcross dimension) dimension (map entry_of entries.items) (marks_of marks.items) }
         requires few { length entries.items ≤ 100001 }
         requires settled { stuck (marks_of marks.items) ≡ 0 }
@@ -81,7 +82,7 @@ impl Atlas {
     }
 
     /// A copy, or want of memory.
-    pub fn try_copy(&self) -> Result<Atlas, AllocError>
+    pub fn try_copy(&self) -> Result<Atlas, Memory>
         ensures { IfOk result (λ b. b ≡ self.now) }
     {
         let alloc = *self.entries.allocator();

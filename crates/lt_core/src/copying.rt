@@ -5,21 +5,19 @@ ghost use Rattle.lt_core.specs.Marks.{mark_of, marks_of, event_of, entry_of};
 
 use crate::marks::{Entry, Event, Mark};
 use crate::prints::Print;
-use std::alloc::{AllocError, Global};
+use lt_model::Memory;
+use std::alloc::Global;
 
 impl Entry {
     /// A copy, or want of memory.
-    pub fn try_copy(&self) -> Result<Entry, AllocError>
+    pub fn try_copy(&self) -> Result<Entry, Memory>
         ensures { IfOk result (λ e. entry_of e ≡ entry_of self.now) }
     {
-        match self.triangulation.try_copy() {
-            Ok(triangulation) => Ok(Entry {
-                triangulation,
-                cone: self.cone.try_copy()?,
-                origin: self.origin,
-            }),
-            Err(_) => Err(AllocError),
-        }
+        Ok(Entry {
+            triangulation: self.triangulation.try_copy()?,
+            cone: self.cone.try_copy()?,
+            origin: self.origin,
+        })
     }
 }
 
@@ -37,7 +35,7 @@ impl Event {
 }
 
 /// Copies of the entries.
-pub fn entries_copy(alloc: Global, entries: &[Entry]) -> Result<Vec<Entry>, AllocError>
+pub fn entries_copy(alloc: Global, entries: &[Entry]) -> Result<Vec<Entry>, Memory>
     ensures { IfOk result (λ v. map entry_of v.items ≡ map entry_of entries.now) }
 {
     let mut all = Vec::new(alloc);
@@ -48,7 +46,7 @@ pub fn entries_copy(alloc: Global, entries: &[Entry]) -> Result<Vec<Entry>, Allo
 }
 
 /// A copy of the marks of an entry.
-fn row_copy(alloc: Global, row: &[Mark]) -> Result<Vec<Mark>, AllocError>
+fn row_copy(alloc: Global, row: &[Mark]) -> Result<Vec<Mark>, Memory>
     ensures { IfOk result (λ v. map mark_of v.items ≡ map mark_of row.now) }
 {
     let mut all = Vec::new(alloc);
@@ -59,7 +57,7 @@ fn row_copy(alloc: Global, row: &[Mark]) -> Result<Vec<Mark>, AllocError>
 }
 
 /// Copies of the marks of all entries.
-pub fn marks_copy(alloc: Global, marks: &[Vec<Mark>]) -> Result<Vec<Vec<Mark>>, AllocError>
+pub fn marks_copy(alloc: Global, marks: &[Vec<Mark>]) -> Result<Vec<Vec<Mark>>, Memory>
     ensures { IfOk result (λ v. marks_of v.items ≡ marks_of marks.now) }
 {
     let mut all = Vec::new(alloc);
@@ -70,7 +68,7 @@ pub fn marks_copy(alloc: Global, marks: &[Vec<Mark>]) -> Result<Vec<Vec<Mark>>, 
 }
 
 /// Copies of the fingerprints.
-pub fn prints_copy(alloc: Global, prints: &[Print]) -> Result<Vec<Print>, AllocError>
+pub fn prints_copy(alloc: Global, prints: &[Print]) -> Result<Vec<Print>, Memory>
     ensures { IfOk result (λ v. v.items ≡ prints.now) }
 {
     let mut all = Vec::new(alloc);
@@ -81,7 +79,7 @@ pub fn prints_copy(alloc: Global, prints: &[Print]) -> Result<Vec<Print>, AllocE
 }
 
 /// A copy of the queue.
-pub fn queue_copy(alloc: Global, queue: &[(u32, u32)]) -> Result<Vec<(u32, u32)>, AllocError>
+pub fn queue_copy(alloc: Global, queue: &[(u32, u32)]) -> Result<Vec<(u32, u32)>, Memory>
     ensures { IfOk result (λ v. v.items ≡ queue.now) }
 {
     let mut all = Vec::new(alloc);
@@ -92,7 +90,7 @@ pub fn queue_copy(alloc: Global, queue: &[(u32, u32)]) -> Result<Vec<(u32, u32)>
 }
 
 /// A copy of the log, with room for so many events more.
-pub fn log_copy(alloc: Global, log: &[Event], room: usize) -> Result<Vec<Event>, AllocError>
+pub fn log_copy(alloc: Global, log: &[Event], room: usize) -> Result<Vec<Event>, Memory>
     ensures { IfOk result (λ v. (map event_of v.items ≡ map event_of log.now) × (vec_len v + room ≤ vec_capacity v)) }
 {
     let mut all = Vec::new(alloc);

@@ -8,7 +8,8 @@ ghost use Rattle.lt_core.specs.Marks.{mark_of, marks_of};
 
 use crate::marks::{Entry, Event, Mark};
 use crate::prints::Print;
-use std::alloc::{AllocError, Global};
+use lt_model::Memory;
+use std::alloc::Global;
 
 /// Writes a mark.
 pub fn put(marks: &mut Vec<Vec<Mark>>, entry: usize, facet: usize, mark: Mark)
@@ -36,7 +37,7 @@ pub fn push_within<T: Drop>(all: &mut Vec<T>, item: T)
 }
 
 /// As many open marks.
-pub fn opens_of(alloc: Global, count: usize) -> Result<Vec<Mark>, AllocError>
+pub fn opens_of(alloc: Global, count: usize) -> Result<Vec<Mark>, Memory>
     ensures { IfOk result (λ v. map mark_of v.items ≡ opens count) }
 {
     let mut row = Vec::new(alloc);
@@ -57,7 +58,7 @@ pub fn append_places(queue: &mut Vec<(u32, u32)>, entry: u32, count: u32)
 }
 
 /// Appends the places of the open marks of an entry.
-pub fn append_open(queue: &mut Vec<(u32, u32)>, entry: u32, row: &[Mark]) -> Result<(), AllocError>
+pub fn append_open(queue: &mut Vec<(u32, u32)>, entry: u32, row: &[Mark]) -> Result<(), Memory>
     requires { length row.now < 2 ^ 32 }
     ensures { OnOk result (queue.new.items ≡ queue.old.items ++ open_in entry 0 (map mark_of row.now)) }
 {
@@ -70,7 +71,7 @@ pub fn append_open(queue: &mut Vec<(u32, u32)>, entry: u32, row: &[Mark]) -> Res
 }
 
 /// The places of all open marks, by entry and facet.
-pub fn open_queue(alloc: Global, marks: &[Vec<Mark>]) -> Result<Vec<(u32, u32)>, AllocError>
+pub fn open_queue(alloc: Global, marks: &[Vec<Mark>]) -> Result<Vec<(u32, u32)>, Memory>
     requires few { length marks.now < 2 ^ 32 }
     requires few_facets { (k : ℕ) → k < length marks.now → length (get_or (marks_of marks.now) k []) < 2 ^ 32 }
     ensures { IfOk result (λ q. q.items ≡ open_places 0 (marks_of marks.now)) }
@@ -91,7 +92,7 @@ pub fn make_room(
     log: &mut Vec<Event>,
     facets: usize,
     events: usize,
-) -> Result<(), AllocError>
+) -> Result<(), Memory>
     ensures entries { (entries.new.items ≡ entries.old.items) × (vec_len entries.new ≡ vec_len entries.old) }
     ensures marks { (marks.new.items ≡ marks.old.items) × (vec_len marks.new ≡ vec_len marks.old) }
     ensures prints { (prints.new.items ≡ prints.old.items) × (vec_len prints.new ≡ vec_len prints.old) }

@@ -9,6 +9,7 @@ ghost use Rattle.lt_core.specs.Prints.{digest_of};
 
 use crate::marks::Entry;
 use lt_colour::fingerprint;
+use lt_model::Memory;
 use lt_triang::Triangulation;
 use std::alloc::{AllocError, Global};
 use std::marker::Model;
@@ -135,18 +136,16 @@ impl Print {
 }
 
 /// The fingerprint of a triangulation.
-pub fn print_of(alloc: Global, t: &Triangulation) -> Result<Print, AllocError>
+pub fn print_of(alloc: Global, t: &Triangulation) -> Result<Print, Memory>
     requires { IsOfSomeForm t.now }
     ensures { IfOk result (λ p. IsFingerprint (dimension_of t.now) t.now p) }
 {
-    match fingerprint(alloc, t) {
-        Ok(print) => Print::of(alloc, &print),
-        Err(_) => Err(AllocError),
-    }
+    let print = fingerprint(alloc, t)?;
+    Ok(Print::of(alloc, &print)?)
 }
 
 /// The fingerprints of the triangulations of the entries.
-pub fn prints_of(alloc: Global, entries: &[Entry]) -> Result<Vec<Print>, AllocError>
+pub fn prints_of(alloc: Global, entries: &[Entry]) -> Result<Vec<Print>, Memory>
     requires { (k : ℕ) → k < length entries.now → IsOfSomeForm (entry_at (map entry_of entries.now) k).triangulation }
     ensures count { IfOk result (λ v. length v.items ≡ length entries.now) }
     ensures each { IfOk result (λ v. (k : ℕ) → k < length entries.now → let t = (entry_at (map entry_of entries.now) k).triangulation in IsFingerprint (dimension_of t) t (get_or v.items k [])) }

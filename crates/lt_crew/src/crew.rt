@@ -32,10 +32,7 @@ fn shared_copies(alloc: Global, atlas: &Atlas) -> Result<Vec<Arc<Triangulation, 
     let mut all = Vec::new(alloc);
     for k in 0..atlas.entries() {
         let shared = shared_copy(alloc, &atlas.entry(k).triangulation)?;
-        match all.push(shared) {
-            Ok(()) => {}
-            Err(_) => return Err(Memory),
-        }
+        all.push(shared)?;
     }
     Ok(all)
 }

@@ -73,9 +73,7 @@ fn seek<L: Ledger, R: Wait>(
         };
         from = k + 1;
         if image.dimension() == beyond.dimension() {
-            if test.known.reserve(1).is_err() {
-                return Err(Memory);
-            }
+            test.known.reserve(1)?;
             match match_types(alloc, beyond, &image)? {
                 Some(matrix) => return Ok(Some((k, image, matrix))),
                 None => test.known.push_reserved(image),
@@ -89,10 +87,7 @@ fn seek<L: Ledger, R: Wait>(
 pub fn shared_copy(alloc: Global, t: &Triangulation) -> Result<Arc<Triangulation, Global>, Memory>
     ensures { IfOk result (λ s. arc_value s ≡ t.now) }
 {
-    match Arc::new(alloc, t.try_copy()?) {
-        Ok(shared) => Ok(shared),
-        Err(_) => Err(Memory),
-    }
+    Ok(Arc::new(alloc, t.try_copy()?)?)
 }
 
 /// Records the entry onto which what lies beyond a facet is carried, where there is one up to the number that is then tested.

@@ -176,13 +176,10 @@ impl<L: Ledger> Desk<L> {
         let (k, facet) = self.atlas.place(position);
         let entry = self.atlas.entry(k);
         let row = entry.cone.facet(facet as usize);
-        match Arc::try_clone(&self.shared[k as usize]) {
-            Ok(home) => Ok(Task {
-                home,
-                normal: row.normal.copy(),
-            }),
-            Err(_) => Err(Memory),
-        }
+        Ok(Task {
+            home: Arc::try_clone(&self.shared[k as usize])?,
+            normal: row.normal.copy(),
+        })
     }
 
     /// The next entry, from the one with the number `from`, with this fingerprint: its number and a copy. And the number of entries.
@@ -198,10 +195,8 @@ impl<L: Ledger> Desk<L> {
         match self.atlas.likely(print, from) {
             Some(k) => {
                 self.atlas.keeps();
-                match Arc::try_clone(&self.shared[k as usize]) {
-                    Ok(image) => Ok((Some((k, image)), entries)),
-                    Err(_) => Err(Memory),
-                }
+                let image = Arc::try_clone(&self.shared[k as usize])?;
+                Ok((Some((k, image)), entries))
             }
             None => Ok((None, entries)),
         }

@@ -201,10 +201,7 @@ pub fn cells(alloc: Global, t: &Triangulation, facet: &Normal) -> Result<Vec<Cel
     let all = sorted_distinct(all_cell_points(alloc, t, facet)?);
     let mut cells = Vec::new(alloc);
     for i in 0..all.len() {
-        match cells.push(cell_of(&all[i])) {
-            Ok(()) => {}
-            Err(_) => return Err(Memory),
-        }
+        cells.push(cell_of(&all[i]))?;
     }
     Ok(cells)
 }

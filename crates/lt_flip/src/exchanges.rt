@@ -74,10 +74,7 @@ pub fn push_exchanged(
 {
     for k in 0..d + 1 {
         if is_positive_at(e, k) {
-            match all.push(exchanged_class(d, s, w, e, k)) {
-                Ok(()) => {}
-                Err(_) => return Err(Memory),
-            }
+            all.push(exchanged_class(d, s, w, e, k))?;
         }
     }
     Ok(())

@@ -11,7 +11,7 @@ use Rattle.lt_model.proofs.Vectors.{dot-plus, dot-scale, dot_comm}
 use Rattle.lt_model.proofs.Excess.{dot-nil}
 use Rattle.lt_model.proofs.Walk.{length-without}
 use Rattle.lt_model.proofs.Sets.{Contains-head, Contains-tail, Contains-cases, Contains-none}
-use Rattle.lt_model.specs.Vectors.{scale, dot, total, combine, IsPrimitive}
+use Rattle.lt_model.specs.Vectors.{plus, scale, dot, total, zeros, combine, IsPrimitive}
 use Rattle.lt_model.specs.Simplices.{AllOfDimension}
 use Rattle.lt_model.specs.Facets.{without}
 use Rattle.lt_model.specs.Cones.{coefficients, places}
@@ -22,6 +22,7 @@ use Rattle.lt_geometry.proofs.Regulators.{from_multiple}
 use Rattle.lt_geometry.proofs.Values.{list_dec}
 use Rattle.lt_lp.specs.Positive.{IsPositiveAt}
 use Rattle.lt_lp.specs.Alternatives.{IsCombination}
+use Rattle.lt_lp.proofs.FromZeros.{dot_from_zeros}
 use Rattle.lt_lp.proofs.OneAlternative.{one_alternative}
 use Rattle.lt_laws.proofs.RegulatorLists.{last_or_below}
 
@@ -31,7 +32,7 @@ record IsSumOf (vs : List (List ℤ)) (u : List ℤ) (multiple : ℤ) (cs : List
   pub one_each : length cs ≡ length us
   pub positive : AllByRecursion (λ x. pos 0 <ℤ x) cs
   pub from : (v : List ℤ) → Contains us v → Contains vs v
-  pub sum : combine cs us ≡ scale multiple u
+  pub sum : plus (zeros (length u)) (combine cs us) ≡ scale multiple u
 
 abbrev HasSum : List (List ℤ) → List ℤ → Type 0
 HasSum vs u = (multiple : ℤ) × (cs : List ℤ) × (us : List (List ℤ)) × IsSumOf vs u multiple cs us
@@ -199,7 +200,7 @@ suffice (suc k) m form q (x ∷ xs) l h f n c = go (search m form ns h (length n
         here = Contains-get_or ns i [] b
 
         at : (y : List ℤ) → dot y (combine cs us) ≡ a *ℤ dot y u
-        at y = ap (dot y) s.sum ∙ dot-scale y a u
+        at y = sym (dot_from_zeros y (length u) (combine cs us)) ∙ ap (dot y) s.sum ∙ dot-scale y a u
 
         above : pos 0 <ℤ (a *ℤ dot form u)
         above = mul_pos_z a (dot form u) s.some (subst (λ (z : ℤ). pos 0 <ℤ z) (dot_comm u form) (h.above u here))

@@ -33,10 +33,7 @@ fn push_edges_to(all: &mut Vec<Point>, class: &Class, to: usize) -> Result<(), M
     ensures { IfOk result (λ _. Gathers (IsEdgeTo class.now to to) all.old.items all.new.items) }
 {
     for from in 0..to {
-        match all.push(edge(class, from, to)) {
-            Ok(()) => {}
-            Err(_) => return Err(Memory),
-        }
+        all.push(edge(class, from, to))?;
     }
     Ok(())
 }

@@ -1,5 +1,5 @@
 -- What the check of a verdict looks at says that the verdict is right.
-use Rattle.std.proofs.Common.{◌≡◌, ◌≢◌, refl, sym, ◌∙◌, ap, subst, arith, ℕ, zero, suc, ◌+◌, ◌*◌, ◌^◌, ◌<◌, ◌≤◌, ℤ, pos, negsuc, ◌+ℤ◌, ◌*ℤ◌, ◌≤ℤ◌, ◌<ℤ◌, List, [], ◌∷◌, length, map, get_or, drop, drop-cons, add-one, nat_abs, mul-le-mul, FitsSigned}
+use Rattle.std.proofs.Common.{◌≡◌, ◌≢◌, ◌⊎◌, inl, inr, refl, sym, ◌∙◌, ap, subst, arith, ℕ, zero, suc, ◌+◌, ◌*◌, ◌^◌, ◌<◌, ◌≤◌, ℤ, pos, negsuc, ◌+ℤ◌, ◌*ℤ◌, ◌≤ℤ◌, ◌<ℤ◌, List, [], ◌∷◌, length, map, get_or, drop, drop-cons, add-one, nat_abs, mul-le-mul, FitsSigned}
 use Rattle.std.specs.List.{All, AllByRecursion}
 use Rattle.std.specs.List.Sorted.{IsStrictlySortedBy}
 use Rattle.std.specs.Ordering.{nat_cmp}
@@ -13,7 +13,7 @@ use Rattle.std.proofs.lemmas.Nat.Gcd.{le_of_dvd, dvd-zero}
 use Rattle.lt_model.specs.Padded.{lookup}
 use Rattle.lt_model.specs.Vectors.{scale, combine, IsPrimitive}
 use Rattle.lt_model.specs.Forms.{numbers_of_form}
-use Rattle.lt_model.specs.Cones.{coefficients, places, AreBelow, IsRightCombination}
+use Rattle.lt_model.specs.Cones.{coefficients, places, AreBelow, sum_of_terms, IsRightCombination}
 use Rattle.lt_model.proofs.Integers.{mul_comm_z}
 use Rattle.lt_model.proofs.Squares.{length-scale}
 use Rattle.lt_model.proofs.Walk.{length-combine}
@@ -23,6 +23,7 @@ use Rattle.lt_tableau.proofs.Sums.{lookup_none, lookup_plus, lookup_scale}
 use Rattle.lt_lp.specs.Checks.{AreTerms, term_sum}
 use Rattle.lt_lp.proofs.Reduces.{primitive_from_gcd, map-is-scale, zero_divides}
 use Rattle.lt_lp.proofs.Combined.{same_lists, all_of_dimension}
+use Rattle.lt_lp.proofs.FromZeros.{lookup_from_zeros, length_from_zeros}
 
 -- ---- divisors
 zero_of : (x : ℤ) → 2 ^ 127 ∣ nat_abs x → nat_abs x < 2 ^ 62 → 0 ∣ nat_abs x
@@ -125,6 +126,9 @@ sum_is ns j (t ∷ ts) =
     lookup_plus (scale t.1 (get_or ns t.0 [])) (combine (coefficients ts) (map (λ i. get_or ns i []) (places ts))) j
     ∙ rw (lookup_scale t.1 (get_or ns t.0 []) j, sum_is ns j ts, mul_comm_z t.1 (lookup (get_or ns t.0 []) j)) refl
 
+from_zeros : (ns : List (List ℤ)) (k : ℕ) (ts : List (ℕ × ℤ)) (j : ℕ) → lookup (sum_of_terms ns k ts) j ≡ lookup (combine (coefficients ts) (map (λ i. get_or ns i []) (places ts))) j
+from_zeros ns k ts j = lookup_from_zeros (length (get_or ns k [])) (combine (coefficients ts) (map (λ i. get_or ns i []) (places ts))) j
+
 pub sum_step : (ns : List (List ℤ)) (j : ℕ) (ts : List (ℕ × ℤ)) (i : ℕ) (d : ℕ × ℤ) → i < length ts → term_sum ns j (drop i ts) ≡ lookup (get_or ns (get_or ts i d).0 []) j *ℤ (get_or ts i d).1 +ℤ term_sum ns j (drop (i + 1) ts)
 sum_step ns j ts i d h = rw (add-one i, drop-cons ts i d) refl
 
@@ -140,17 +144,18 @@ sum_sizes s x y i l h k m =
 pub record HasParts (d : ℕ) (ns : List (List ℤ)) (k : ℕ) (factor : ℤ) (ts : List (ℕ × ℤ)) : Type 0 where
   pub some : pos 0 <ℤ factor
   pub small : nat_abs factor < 2 ^ 62
-  pub occupied : 0 < length ts
   pub few : length ts ≤ length (get_or ns k [])
   pub terms : AreTerms 0 (length ns) k ts
   pub primitive : IsPrimitive (factor ∷ coefficients ts)
   pub sums : (j : ℕ) → j < length (get_or ns k []) → term_sum ns j ts ≡ factor *ℤ lookup (get_or ns k []) j
 
-long : (d : ℕ) (ns : List (List ℤ)) (ts : List (ℕ × ℤ)) → AreOfDimension d ns → 0 < length ts → All (λ i. i < length ns) (places ts) → length (combine (coefficients ts) (map (λ i. get_or ns i []) (places ts))) ≡ numbers_of_form d
-long d ns ts h o w =
+long : (d : ℕ) (ns : List (List ℤ)) (ts : List (ℕ × ℤ)) → AreOfDimension d ns → All (λ i. i < length ns) (places ts) → (length (combine (coefficients ts) (map (λ i. get_or ns i []) (places ts))) ≡ numbers_of_form d) ⊎ (combine (coefficients ts) (map (λ i. get_or ns i []) (places ts)) ≡ [])
+long d ns [] h w = inr refl
+long d ns (t ∷ us) h w =
+    let ts = t ∷ us in
     let c : length (coefficients ts) ≡ length (map (λ i. get_or ns i []) (places ts)) = length-map ts (λ p. p.1) ∙ sym (length-map (places ts) (λ i. get_or ns i []) ∙ length-map ts (λ p. p.0)) in
     let e : length (coefficients ts) ≡ length ts = length-map ts (λ p. p.1) in
-    length-combine (numbers_of_form d) (coefficients ts) (map (λ i. get_or ns i []) (places ts)) (all_of_dimension (numbers_of_form d) ns (places ts) (λ j l. h j [] l) w) c (rw (sym c, e) o)
+    inl (length-combine (numbers_of_form d) (coefficients ts) (map (λ i. get_or ns i []) (places ts)) (all_of_dimension (numbers_of_form d) ns (places ts) (λ j l. h j [] l) w) c (rw (sym c, e) (omega arith)))
 
 pub parts_right : (d : ℕ) (ns : List (List ℤ)) (k : ℕ) (factor : ℤ) (ts : List (ℕ × ℤ)) → AreOfDimension d ns → k < length ns → HasParts d ns k factor ts → IsRightCombination d ns k factor ts
 parts_right d ns k factor ts h l p = record {
@@ -162,22 +167,17 @@ parts_right d ns k factor ts h l p = record {
   positive = positive_terms 0 (length ns) k ts p.terms;
   below = All-cons (λ x. nat_abs x < 2 ^ 62) factor (coefficients ts) p.small (below_terms 0 (length ns) k ts p.terms);
   primitive = p.primitive;
-  sum = same_lists (combine (coefficients ts) (map (λ i. get_or ns i []) (places ts))) (scale factor (get_or ns k []))
-      (long d ns ts h p.occupied (within_places 0 (length ns) k ts p.terms) ∙ sym (length-scale factor (get_or ns k []) ∙ h k [] l))
-      (λ q b. sum_is ns q ts ∙ p.sums q (rw (length-scale factor (get_or ns k [])) at b) ∙ sym (lookup_scale factor (get_or ns k []) q));
+  sum = same_lists (sum_of_terms ns k ts) (scale factor (get_or ns k []))
+      (length_from_zeros (length (get_or ns k [])) (combine (coefficients ts) (map (λ i. get_or ns i []) (places ts))) (rw (h k [] l) (long d ns ts h (within_places 0 (length ns) k ts p.terms))) ∙ sym (length-scale factor (get_or ns k [])))
+      (λ q b. from_zeros ns k ts q ∙ sum_is ns q ts ∙ p.sums q (rw (length-scale factor (get_or ns k [])) at b) ∙ sym (lookup_scale factor (get_or ns k []) q));
 }
 
-pub right_parts : (d : ℕ) (ns : List (List ℤ)) (k : ℕ) (factor : ℤ) (ts : List (ℕ × ℤ)) → AreOfDimension d ns → k < length ns → 0 < length (get_or ns k []) → IsRightCombination d ns k factor ts → HasParts d ns k factor ts
-right_parts d ns k factor ts h l n r = record {
+pub right_parts : (d : ℕ) (ns : List (List ℤ)) (k : ℕ) (factor : ℤ) (ts : List (ℕ × ℤ)) → AreOfDimension d ns → k < length ns → IsRightCombination d ns k factor ts → HasParts d ns k factor ts
+right_parts d ns k factor ts h l r = record {
   some = r.some;
   small = All-head (λ x. nat_abs x < 2 ^ 62) factor (coefficients ts) r.below;
-  occupied = occupied ts r.sum;
   few = rw (h k [] l) r.few;
   terms = terms_back 0 (length ns) k ts (all_from (places ts)) r.ascending r.within r.other r.positive (All-tail (λ x. nat_abs x < 2 ^ 62) factor (coefficients ts) r.below);
   primitive = r.primitive;
-  sums = λ j b. sym (sum_is ns j ts) ∙ ap (λ (v : List ℤ). lookup v j) r.sum ∙ lookup_scale factor (get_or ns k []) j;
+  sums = λ j b. sym (from_zeros ns k ts j ∙ sum_is ns j ts) ∙ ap (λ (v : List ℤ). lookup v j) r.sum ∙ lookup_scale factor (get_or ns k []) j;
 }
-  where
-    occupied : (us : List (ℕ × ℤ)) → combine (coefficients us) (map (λ i. get_or ns i []) (places us)) ≡ scale factor (get_or ns k []) → 0 < length us
-    occupied [] e = let a : 0 ≡ length (scale factor (get_or ns k [])) = ap (length {A = ℤ}) e in let b = length-scale factor (get_or ns k []) in absurd (omega arith)
-    occupied (u ∷ us) e = omega arith

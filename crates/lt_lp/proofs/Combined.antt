@@ -1,5 +1,5 @@
 -- The combination of a tableau whose objective is 0 is right.
-use Rattle.std.proofs.Common.{subst, ◌≡◌, ◌≢◌, refl, sym, ◌∙◌, ap, ℕ, suc, ◌+◌, ◌-◌, ◌^◌, ◌≤◌, ◌<◌, ℤ, pos, ◌-ℤ◌, ◌*ℤ◌, ◌≤ℤ◌, ◌<ℤ◌, arith, List, [], ◌∷◌, map, length, get_or, nat_abs}
+use Rattle.std.proofs.Common.{subst, ◌≡◌, ◌≢◌, inl, refl, sym, ◌∙◌, ap, ℕ, suc, ◌+◌, ◌-◌, ◌^◌, ◌≤◌, ◌<◌, ℤ, pos, ◌-ℤ◌, ◌*ℤ◌, ◌≤ℤ◌, ◌<ℤ◌, arith, List, [], ◌∷◌, map, length, get_or, nat_abs}
 use Rattle.std.specs.Prelude.{remove}
 use Rattle.std.specs.List.{All}
 use Rattle.std.specs.List.Sorted.{IsStrictlySortedBy}
@@ -11,7 +11,7 @@ use Rattle.lt_model.specs.Padded.{lookup}
 use Rattle.lt_model.specs.Vectors.{scale, dot, combine, total}
 use Rattle.lt_model.specs.Forms.{numbers_of_form}
 use Rattle.lt_model.specs.Simplices.{AllOfDimension}
-use Rattle.lt_model.specs.Cones.{coefficients, places, IsRightCombination}
+use Rattle.lt_model.specs.Cones.{coefficients, places, sum_of_terms, IsRightCombination}
 use Rattle.lt_model.proofs.Integers.{mul_zero_z}
 use Rattle.lt_model.proofs.Ring.{ring, var, ◌⊕◌, ◌⊗◌}
 use Rattle.lt_model.proofs.Inequalities.{cancel_z}
@@ -25,6 +25,7 @@ use Rattle.lt_tableau.proofs.Starts.{length-system}
 use Rattle.lt_lp.specs.Rule.{objective_of, IsReady}
 use Rattle.lt_lp.specs.Reduced.{IsReduced}
 use Rattle.lt_lp.specs.Terms.{value_of, terms_from, terms_of, scale_of}
+use Rattle.lt_lp.proofs.FromZeros.{lookup_from_zeros, length_from_zeros}
 use Rattle.lt_lp.proofs.Reduces.{reduced_below}
 use Rattle.lt_lp.proofs.Turned.{positive_factor}
 use Rattle.lt_lp.proofs.Terms.{terms_ascend, terms_within, terms_other, terms_positive, terms_below, terms_few, terms_sum, terms_total}
@@ -113,7 +114,9 @@ right_combination t normals k d form factor terms c o g small least ps r = recor
   positive = positive_scale r.factor (coefficients terms) r.some (subst (All (λ x. pos 0 <ℤ x)) rest (terms_positive k (value_of t) 0 (units_of t - 2) (value_nonneg t c.ready)));
   below = reduced_below (2 ^ 62) (scale_of t ∷ coefficients (terms_of k t)) (factor ∷ coefficients terms) r (All-cons (λ x. nat_abs x < 2 ^ 62) (scale_of t) (coefficients (terms_of k t)) least (terms_below k (2 ^ 62) (value_of t) 0 (units_of t - 2) small));
   primitive = r.primitive;
-  sum = same_lists (combine (coefficients terms) vs) (scale factor (get_or normals k [])) (long ∙ sym (length-scale factor (get_or normals k []) ∙ c.lengths k c.place)) (λ q l. number q (rw (length-scale factor (get_or normals k []), c.lengths k c.place) at l));
+  sum = same_lists (sum_of_terms normals k terms) (scale factor (get_or normals k []))
+      (length_from_zeros (length (get_or normals k [])) (combine (coefficients terms) vs) (inl (long ∙ sym (c.lengths k c.place))) ∙ sym (length-scale factor (get_or normals k [])))
+      (λ q l. lookup_from_zeros (length (get_or normals k [])) (combine (coefficients terms) vs) q ∙ number q (rw (length-scale factor (get_or normals k []), c.lengths k c.place) at l));
 }
   where
     u : units_of t ≡ suc (length normals)

@@ -8,11 +8,16 @@ use Rattle.std.specs.declared.cmp.Ordering.{Ordering}
 use Rattle.std.specs.declared.cmp.Ordering.TheVariants.{Less}
 use Rattle.std.specs.Cmp.{IsTotalOrder}
 use Rattle.lt_model.specs.Order.{number_list_cmp}
-use Rattle.lt_model.specs.Vectors.{scale, dot, IsPrimitive}
+use Rattle.lt_model.specs.Vectors.{scale, dot, combine}
 use Rattle.lt_model.specs.Walls.{IsRegulator, IsWallForm, IsFacet}
 use Rattle.lt_model.specs.Cones.{Verdict, wall, combination, Row, Cone, normals, coefficients, places, IsRightWall, IsRightCombination, IsRightVerdict, IsRightCone}
 use Rattle.lt_model.specs.Atlases.{facet_if, facets_of}
+use Rattle.lt_model.specs.Padded.{lookup}
 use Rattle.lt_lp.specs.Facets.{has_wall}
+use Rattle.lt_lp.proofs.FromZeros.{lookup_from_zeros, dot_from_zeros}
+use Rattle.lt_lp.proofs.RowSums.{not_primitive}
+use Rattle.lt_tableau.proofs.Sums.{lookup_none, lookup_scale}
+use Rattle.lt_model.proofs.Dependent.{zero_or_not, mul-not_zero}
 use Rattle.lt_model.proofs.Vectors.{dot_comm, dot-scale}
 use Rattle.lt_model.proofs.Excess.{dot-combine}
 use Rattle.lt_model.proofs.Walk.{mul-positive}
@@ -93,15 +98,8 @@ dots_at : (w : List ℤ) (ns : List (List ℤ)) (is : List ℕ) → map (dot w) 
 dots_at w ns [] = refl
 dots_at w ns (i ∷ is) = ap (λ l. dot w (get_or ns i []) ∷ l) (dots_at w ns is)
 
-scale_none : (f : ℤ) (x : List ℤ) → scale f x ≡ [] → x ≡ []
-scale_none f [] e = refl
-scale_none f (a ∷ x) e = cc
-
-not_one : (g : ℕ) → g ≡ 1 → 1 < g → ⊥
-not_one g e l = absurd (omega arith)
-
-none_not_primitive : (n : List ℤ) → n ≡ [] → IsPrimitive n → ⊥
-none_not_primitive n e h = not_one 2 (h 2 [] e) (omega arith)
+zero_factor : (f x : ℤ) → pos 0 <ℤ f → f *ℤ x ≡ pos 0 → x ≡ pos 0
+zero_factor f x p e = elim (zero_or_not x) [ inl z ↦ z | inr n ↦ absurd (mul-not_zero f x (λ q. omega (arith, ints, p, q)) n e) ]
 
 module _ (d : ℕ) (t : List (List (List ℤ))) (c : Cone) (h : IsRightCone d t c) where
   abbrev ns : List (List ℤ)
@@ -162,15 +160,19 @@ module _ (d : ℕ) (t : List (List (List ℤ))) (c : Cone) (h : IsRightCone d t 
           let zero_there : dot w (get_or ns k []) ≡ pos 0 = ap (dot w) here ∙ dot_comm w n ∙ f.zero_there in
           ap (dot (coefficients terms)) (sym (dots_at w ns (places terms)))
           ∙ sym (dot-combine w (coefficients terms) (map (λ i. get_or ns i []) (places terms)))
+          ∙ sym (dot_from_zeros w (length (get_or ns k [])) (combine (coefficients terms) (map (λ i. get_or ns i []) (places terms))))
           ∙ ap (dot w) y.sum
           ∙ dot-scale w factor (get_or ns k [])
           ∙ ap (λ z. factor *ℤ z) zero_there
           ∙ (omega (arith, ints))
 
       by_terms : (terms : List (ℕ × ℤ)) → IsRightCombination d ns k factor terms → ⊥
-      by_terms [] y =
-          let none : n ≡ [] = sym here ∙ scale_none factor (get_or ns k []) (sym y.sum) in
-          none_not_primitive n none f.regulator.4.primitive
+      by_terms [] y = not_primitive n (λ q. zero_factor factor (lookup n q) y.some (at q)) f.regulator.4.primitive
+        where
+          at : (q : ℕ) → factor *ℤ lookup n q ≡ pos 0
+          at q =
+              sym (ap (λ (v : List ℤ). lookup (scale factor v) q) here ∙ lookup_scale factor n q)
+              ∙ sym (ap (λ (v : List ℤ). lookup v q) y.sum) ∙ lookup_from_zeros (length (get_or ns k [])) [] q ∙ lookup_none q
       by_terms (x ∷ terms) y =
           let p = sum_positive (λ i. dot w (get_or ns i [])) (x ∷ terms) (each (x ∷ terms) y) (recursion_from_All (λ z. pos 0 <ℤ z) (coefficients (x ∷ terms)) y.positive) (omega arith) in
           let z = sum_is (x ∷ terms) y in

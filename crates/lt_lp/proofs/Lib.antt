@@ -17,6 +17,7 @@ pub mod TermLoops
 pub mod Decided
 pub mod FacetRows
 pub mod Checked
+pub mod FromZeros
 pub mod Gordan
 pub mod OneAlternative
 pub mod WallSums

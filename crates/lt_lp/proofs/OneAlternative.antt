@@ -8,7 +8,7 @@ use Rattle.std.proofs.lemmas.List.Edits.{length-remove, get_or-remove_above, get
 use Rattle.std.proofs.lemmas.List.Elements.{All-head, All-tail}
 use native.Mathlib.Decide.{dec_le}
 use Rattle.lt_model.specs.Padded.{tail_z, lookup}
-use Rattle.lt_model.specs.Vectors.{plus, scale, dot, combine}
+use Rattle.lt_model.specs.Vectors.{plus, scale, dot, zeros, combine}
 use Rattle.lt_model.specs.Simplices.{AllOfDimension}
 use Rattle.lt_model.specs.Forms.{numbers_of_form}
 use Rattle.lt_model.specs.Cones.{Verdict, wall, combination, coefficients, places, IsRightVerdict}
@@ -24,6 +24,7 @@ use Rattle.lt_tableau.proofs.Sums.{lookup_none, lookup_scale, lookup_combine, su
 use Rattle.lt_lp.specs.Positive.{IsPositiveAt}
 use Rattle.lt_lp.specs.Terms.{terms_from}
 use Rattle.lt_lp.specs.Alternatives.{IsWallForm, IsCombination, HasWallForm, IsCombined, IsNoWall, EveryPlaceHasOneAlternative}
+use Rattle.lt_lp.proofs.FromZeros.{lookup_from_zeros, dot_from_zeros, length_from_zeros}
 use Rattle.lt_lp.proofs.Terms.{terms_ascend, terms_within, terms_other, terms_positive, terms_sum}
 use Rattle.lt_lp.proofs.Combined.{same_lists, combine-scale, all_of_dimension}
 use Rattle.lt_lp.proofs.Gordan.{AllAbove, Same, IsRelation, Alternative, gordan, turned, turned_positive, combine_turned, dot_combine_pos, dot_self_nonneg, dot_self_zero, same_dot}
@@ -165,7 +166,9 @@ combined n ns k form a h p s ts r = record {
   within = within;
   other = terms_other k (lookup ts) 0 (length (remove ns k));
   positive = terms_positive k (lookup ts) 0 (length (remove ns k)) r.not_negative;
-  sum = same_lists (combine (coefficients terms) vs) (scale s (column_at ns k)) (long ∙ sym (length-scale s (column_at ns k) ∙ length_at n ns a k h)) (λ q l. same q);
+  sum = same_lists (plus (zeros (length (column_at ns k))) (combine (coefficients terms) vs)) (scale s (column_at ns k))
+      (length_from_zeros (length (column_at ns k)) (combine (coefficients terms) vs) (inl (long ∙ sym (length_at n ns a k h))) ∙ sym (length-scale s (column_at ns k)))
+      (λ q l. lookup_from_zeros (length (column_at ns k)) (combine (coefficients terms) vs) q ∙ same q);
 }
   where
     terms : List (ℕ × ℤ)
@@ -209,12 +212,12 @@ above_places n ns k w (p ∷ ps) f a b (suc i) h = above_places n ns k w ps f (A
 
 never_both : (n : ℕ) (ns : List (List ℤ)) (k : ℕ) (form : List ℤ) → k < length ns → AllAbove form ns → (w : List ℤ) → IsWallForm n ns k w → (factor : ℤ) (terms : List (ℕ × ℤ)) → IsCombination ns k factor terms → ⊥
 never_both n ns k form h p w f factor [] c =
-    let e : pos 0 ≡ factor *ℤ dot form (column_at ns k) = sym (dot-nil form) ∙ ap (dot form) c.sum ∙ dot-scale form factor (column_at ns k) in
+    let e : pos 0 ≡ factor *ℤ dot form (column_at ns k) = sym (dot_from_zeros form (length (column_at ns k)) [] ∙ dot-nil form) ∙ ap (dot form) c.sum ∙ dot-scale form factor (column_at ns k) in
     let m = mul_pos_z factor (dot form (column_at ns k)) c.some (p k h) in
     absurd (omega (arith, ints))
 never_both n ns k form h p w f factor (t ∷ terms) c =
     let vs : List (List ℤ) = map (λ i. get_or ns i []) (places (t ∷ terms)) in
-    let e : dot w (combine (coefficients (t ∷ terms)) vs) ≡ pos 0 = ap (dot w) c.sum ∙ dot-scale w factor (column_at ns k) ∙ ap (λ (z : ℤ). factor *ℤ z) (dot_comm w (column_at ns k) ∙ f.zero_there) ∙ mul_zero_z factor in
+    let e : dot w (combine (coefficients (t ∷ terms)) vs) ≡ pos 0 = sym (dot_from_zeros w (length (column_at ns k)) (combine (coefficients (t ∷ terms)) vs)) ∙ ap (dot w) c.sum ∙ dot-scale w factor (column_at ns k) ∙ ap (λ (z : ℤ). factor *ℤ z) (dot_comm w (column_at ns k) ∙ f.zero_there) ∙ mul_zero_z factor in
     let m = dot_combine_pos w (coefficients (t ∷ terms)) vs 0 (above_places n ns k w (places (t ∷ terms)) f c.within c.other) (lookup_nonneg (coefficients (t ∷ terms)) c.positive) (omega arith) (All-head (λ x. pos 0 <ℤ x) t.1 (coefficients terms) c.positive) in
     absurd (omega (arith, ints))
 

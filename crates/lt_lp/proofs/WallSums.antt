@@ -1,5 +1,5 @@
 -- Sums of walls: number by number, how large, and not 0.
-use Rattle.std.proofs.Common.{◌≡◌, ◌≢◌, ◌⊎◌, inl, inr, refl, sym, ◌∙◌, ap, ℕ, zero, suc, ◌+◌, ◌*◌, ◌^◌, ◌≤◌, ◌<◌, ℤ, pos, ◌+ℤ◌, arith, List, [], ◌∷◌, ◌++◌, length, get_or, drop, drop-cons, add-one, set, length-set, get_or-set_same, get_or-set_other, nat_abs, FitsSigned}
+use Rattle.std.proofs.Common.{◌≡◌, ◌≢◌, refl, sym, ◌∙◌, ap, ℕ, zero, suc, ◌+◌, ◌*◌, ◌^◌, ◌≤◌, ◌<◌, ℤ, pos, ◌+ℤ◌, arith, List, [], ◌∷◌, ◌++◌, length, get_or, drop, drop-cons, add-one, set, length-set, get_or-set_same, get_or-set_other, nat_abs, FitsSigned}
 use Rattle.std.specs.List.{All}
 use Rattle.std.specs.Int.{w128}
 use Rattle.std.proofs.lemmas.Int.{ints, fits_signed_from_abs}
@@ -7,7 +7,7 @@ use native.Mathlib.Decide.{ℕ_discrete, dec_le}
 use Rattle.lt_model.specs.Padded.{lookup}
 use Rattle.lt_model.specs.Vectors.{plus, zeros}
 use Rattle.lt_model.specs.Cones.{Row, Verdict, wall, combination, AreBelow, sum_of_walls, wall_or_none}
-use Rattle.lt_model.proofs.Walk.{plus-nil}
+use Rattle.lt_model.proofs.Opposite.{length-zeros}
 use Rattle.lt_model.proofs.Squares.{length-plus}
 use Rattle.lt_tableau.proofs.Sums.{lookup_none, lookup_is, lookup_plus}
 use Rattle.std.specs.Int.{◌∣◌}
@@ -63,28 +63,27 @@ small_at ys h q = pick (dec_le (length ys) q)
     pick (no l) = rw (lookup_is ys q) (h q (pos 0) (omega arith))
 
 -- ---- one row more
-next_rows : (rows : List Row) (k : ℕ) (r : Row) → k < length rows → sum_of_walls (drop k rows) ≡ plus (wall_or_none (get_or rows k r).verdict) (sum_of_walls (drop (k + 1) rows))
-next_rows rows k r h = rw (add-one k, drop-cons rows k r h) refl
+next_rows : (n : ℕ) (rows : List Row) (k : ℕ) (r : Row) → k < length rows → sum_of_walls n (drop k rows) ≡ plus (wall_or_none (get_or rows k r).verdict) (sum_of_walls n (drop (k + 1) rows))
+next_rows n rows k r h = rw (add-one k, drop-cons rows k r h) refl
 
-pub wall_step : (rows : List Row) (k : ℕ) (r : Row) (w : List ℤ) (old new : ℕ → ℤ) → k < length rows → (get_or rows k r).verdict ≡ wall w → ((q : ℕ) → old q +ℤ lookup (sum_of_walls (drop k rows)) q ≡ lookup (sum_of_walls rows) q) → ((q : ℕ) → new q ≡ old q +ℤ lookup w q) → (q : ℕ) → new q +ℤ lookup (sum_of_walls (drop (k + 1) rows)) q ≡ lookup (sum_of_walls rows) q
-wall_step rows k r w old new h v s n q =
-    let a : lookup (sum_of_walls (drop k rows)) q ≡ lookup w q +ℤ lookup (sum_of_walls (drop (k + 1) rows)) q = ap (λ (x : List ℤ). lookup x q) (next_rows rows k r h ∙ ap (λ (u : Verdict). plus (wall_or_none u) (sum_of_walls (drop (k + 1) rows))) v) ∙ lookup_plus w (sum_of_walls (drop (k + 1) rows)) q in
+pub wall_step : (n : ℕ) (rows : List Row) (k : ℕ) (r : Row) (w : List ℤ) (old new : ℕ → ℤ) → k < length rows → (get_or rows k r).verdict ≡ wall w → ((q : ℕ) → old q +ℤ lookup (sum_of_walls n (drop k rows)) q ≡ lookup (sum_of_walls n rows) q) → ((q : ℕ) → new q ≡ old q +ℤ lookup w q) → (q : ℕ) → new q +ℤ lookup (sum_of_walls n (drop (k + 1) rows)) q ≡ lookup (sum_of_walls n rows) q
+wall_step n rows k r w old new h v s m q =
+    let a : lookup (sum_of_walls n (drop k rows)) q ≡ lookup w q +ℤ lookup (sum_of_walls n (drop (k + 1) rows)) q = ap (λ (x : List ℤ). lookup x q) (next_rows n rows k r h ∙ ap (λ (u : Verdict). plus (wall_or_none u) (sum_of_walls n (drop (k + 1) rows))) v) ∙ lookup_plus w (sum_of_walls n (drop (k + 1) rows)) q in
     let b = s q in
-    let c = n q in
+    let c = m q in
     omega (arith, ints, a, b, c)
 
-pub none_step : (rows : List Row) (k : ℕ) (r : Row) (f : ℤ) (ts : List (ℕ × ℤ)) → k < length rows → (get_or rows k r).verdict ≡ combination f ts → sum_of_walls (drop k rows) ≡ sum_of_walls (drop (k + 1) rows)
-none_step rows k r f ts h v = next_rows rows k r h ∙ ap (λ (u : Verdict). plus (wall_or_none u) (sum_of_walls (drop (k + 1) rows))) v
+pub none_step : (n : ℕ) (rows : List Row) (k : ℕ) (r : Row) (f : ℤ) (ts : List (ℕ × ℤ)) → k < length rows → (get_or rows k r).verdict ≡ combination f ts → sum_of_walls n (drop k rows) ≡ sum_of_walls n (drop (k + 1) rows)
+none_step n rows k r f ts h v = next_rows n rows k r h ∙ ap (λ (u : Verdict). plus (wall_or_none u) (sum_of_walls n (drop (k + 1) rows))) v
 
 -- ---- the length of the sum
-pub long_sum : (n : ℕ) (rows : List Row) → ((k : ℕ) (r : Row) (w : List ℤ) → k < length rows → (get_or rows k r).verdict ≡ wall w → length w ≡ n) → (length (sum_of_walls rows) ≡ n) ⊎ (sum_of_walls rows ≡ [])
-long_sum n [] h = inr refl
+pub long_sum : (n : ℕ) (rows : List Row) → ((k : ℕ) (r : Row) (w : List ℤ) → k < length rows → (get_or rows k r).verdict ≡ wall w → length w ≡ n) → length (sum_of_walls n rows) ≡ n
+long_sum n [] h = length-zeros n
 long_sum n (r ∷ rows) h = with_row r.verdict refl (long_sum n rows (λ k s w l e. h (suc k) s w (omega arith) e))
   where
-    with_row : (v : Verdict) → r.verdict ≡ v → (length (sum_of_walls rows) ≡ n) ⊎ (sum_of_walls rows ≡ []) → (length (plus (wall_or_none r.verdict) (sum_of_walls rows)) ≡ n) ⊎ (plus (wall_or_none r.verdict) (sum_of_walls rows) ≡ [])
+    with_row : (v : Verdict) → r.verdict ≡ v → length (sum_of_walls n rows) ≡ n → length (plus (wall_or_none r.verdict) (sum_of_walls n rows)) ≡ n
     with_row (combination f ts) e s = rw e s
-    with_row (wall w) e (inl s) = let l = h 0 r w (omega arith) e in inl (rw e (length-plus w (sum_of_walls rows) (l ∙ sym s) ∙ l))
-    with_row (wall w) e (inr s) = let l = h 0 r w (omega arith) e in inl (rw (e, s, plus-nil w) l)
+    with_row (wall w) e s = let l = h 0 r w (omega arith) e in rw e (length-plus w (sum_of_walls n rows) (l ∙ sym s) ∙ l)
 
 -- ---- the greatest common divisor of numbers below 2^92
 divides_at : (g : ℕ) (xs : List ℤ) (q : ℕ) → lookup xs q ≢ pos 0 → DividesEach g xs → g ∣ nat_abs (lookup xs q)
@@ -112,8 +111,8 @@ below_from n [] h k x l = absurd (omega arith)
 below_from n (y ∷ xs) h zero x l = h 0
 below_from n (y ∷ xs) h (suc k) x l = below_from n xs (λ q. h (suc q)) k x (omega arith)
 
-pub no_more : (rows : List Row) (k q : ℕ) → length rows ≤ k → lookup (sum_of_walls (drop k rows)) q ≡ pos 0
-no_more [] zero q h = lookup_none q
-no_more [] (suc k) q h = lookup_none q
-no_more (r ∷ rows) zero q h = absurd (omega arith)
-no_more (r ∷ rows) (suc k) q h = no_more rows k q (omega arith)
+pub no_more : (n : ℕ) (rows : List Row) (k q : ℕ) → length rows ≤ k → lookup (sum_of_walls n (drop k rows)) q ≡ pos 0
+no_more n [] zero q h = lookup_zeros n q
+no_more n [] (suc k) q h = lookup_zeros n q
+no_more n (r ∷ rows) zero q h = absurd (omega arith)
+no_more n (r ∷ rows) (suc k) q h = no_more n rows k q (omega arith)

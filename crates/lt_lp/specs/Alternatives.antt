@@ -1,12 +1,12 @@
 -- The alternatives for a normal of a list, of any weight: a wall form, or a combination of the others.
-use Rattle.std.specs.Prelude.{ℕ, ℤ, pos, ◌<ℤ◌, ◌<◌, ◌≢◌, ◌≡◌, ◌⊎◌, List, [], map, length, get_or}
+use Rattle.std.specs.Prelude.{ℕ, ℤ, pos, ◌<ℤ◌, ◌<◌, ◌≢◌, ◌≡◌, ◌⊎◌, List, [], length, get_or}
 use Rattle.std.specs.List.{All}
 use Rattle.std.specs.List.Sorted.{IsStrictlySortedBy}
 use Rattle.std.specs.Ordering.{nat_cmp}
-use Rattle.lt_model.specs.Vectors.{scale, dot, combine}
+use Rattle.lt_model.specs.Vectors.{scale, dot}
 use Rattle.lt_model.specs.Simplices.{AllOfDimension}
 use Rattle.lt_model.specs.Forms.{numbers_of_form}
-use Rattle.lt_model.specs.Cones.{Verdict, wall, combination, coefficients, places}
+use Rattle.lt_model.specs.Cones.{Verdict, wall, combination, coefficients, places, sum_of_terms}
 use Rattle.lt_lp.specs.Positive.{IsPositiveAt}
 
 -- the k-th normal is 0 at the form of n numbers, and each other one is positive
@@ -22,7 +22,7 @@ pub record IsCombination (ns : List (List ℤ)) (k : ℕ) (factor : ℤ) (terms 
   pub within : All (λ i. i < length ns) (places terms)
   pub other : All (λ i. i ≢ k) (places terms)
   pub positive : All (λ x. pos 0 <ℤ x) (coefficients terms)
-  pub sum : combine (coefficients terms) (map (λ i. get_or ns i []) (places terms)) ≡ scale factor (get_or ns k [])
+  pub sum : sum_of_terms ns k terms ≡ scale factor (get_or ns k [])
 
 abbrev pub HasWallForm : ℕ → List (List ℤ) → ℕ → Type 0
 HasWallForm n ns k = (w : List ℤ) × IsWallForm n ns k w

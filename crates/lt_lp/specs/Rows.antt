@@ -21,4 +21,4 @@ pub record IsConeOf (d : ℕ) (ns : List (List ℤ)) (c : Cone) : Type 0 where
   pub names : normals c.rows ≡ ns
   pub verdicts : (k : ℕ) (r : Row) → k < length c.rows → IsRightVerdict d ns k (get_or c.rows k r).verdict
   pub light : weight d ns < weight_limit
-  pub form : IsReduced (sum_of_walls c.rows) c.form
+  pub form : IsReduced (sum_of_walls (numbers_of_form d) c.rows) c.form

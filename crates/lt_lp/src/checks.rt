@@ -143,11 +143,11 @@ fn is_wall(normals: &[Normal], k: usize, form: &Form) -> bool
         && separates(normals, k, form)
 }
 
-/// Whether the scale is positive and below 2^62, and the number of terms is positive and at most `most`.
+/// Whether the scale is positive and below 2^62, and there are at most so many terms.
 fn are_in_range(scale: i128, terms: usize, most: usize) -> bool
-    ensures { IsTrue result ↔ ((pos 0 <ℤ scale) × (nat_abs scale < 2 ^ 62) × (0 < terms) × (terms ≤ most)) }
+    ensures { IsTrue result ↔ ((pos 0 <ℤ scale) × (nat_abs scale < 2 ^ 62) × (terms ≤ most)) }
 {
-    scale > 0 && scale < BOUND && terms > 0 && terms <= most
+    scale > 0 && scale < BOUND && terms <= most
 }
 
 /// Whether the scale and the terms are a right combination for the k-th normal.
@@ -157,7 +157,6 @@ fn is_combination(normals: &[Normal], k: usize, scale: i128, terms: &[(usize, i1
     requires small { All (All (IsBelow (2 ^ 56))) normals.now }
     ensures { (d : ℕ) → AreOfDimension d normals.now → (IsTrue result ↔ IsRightCombination d normals.now k scale terms.now) }
 {
-    let _ = normals[k].dimension();
     if !are_in_range(scale, terms.len(), normals[k].numbers().len()) {
         return false;
     }

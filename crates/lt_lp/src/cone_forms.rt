@@ -47,8 +47,7 @@ fn sum_of(rows: &[Row], d: u8, count: usize) -> ArrayVec<i128, 21>
     requires few_numbers { count ≤ 21 }
     requires few { length rows.now ≤ 2 ^ 29 }
     requires walls { All (λ r. IsWallOf d r.verdict) rows.now }
-    requires long { length (sum_of_walls rows.now) ≡ count }
-    ensures value { result.items ≡ sum_of_walls rows.now }
+    ensures value { result.items ≡ sum_of_walls count rows.now }
     ensures below { AreBelow (2 ^ 92) result.items }
 {
     let mut sums = zeros_of(count);
@@ -68,9 +67,8 @@ pub fn form_of(rows: &[Row], d: u8) -> Form
     requires high { d ≤ 6 }
     requires few { length rows.now ≤ 2 ^ 29 }
     requires walls { All (λ r. IsWallOf d r.verdict) rows.now }
-    requires long { length (sum_of_walls rows.now) ≡ numbers_of_form d }
-    requires some { (q : ℕ) × (lookup (sum_of_walls rows.now) q ≢ pos 0) }
-    ensures { IsReduced (sum_of_walls rows.now) result }
+    requires some { (q : ℕ) × (lookup (sum_of_walls (numbers_of_form d) rows.now) q ≢ pos 0) }
+    ensures { IsReduced (sum_of_walls (numbers_of_form d) rows.now) result }
 {
     let mut sums = sum_of(rows, d, numbers_of(d));
     reduce(sums.as_mut_slice());

@@ -6,7 +6,7 @@ ghost use Rattle.lt_lp.specs.Same.{same_verdict, same_row, same_cone};
 
 use crate::verdicts::{Cone, Row, Verdict};
 use arrayvec::ArrayVec;
-use std::alloc::AllocError;
+use lt_model::Memory;
 
 /// The same terms.
 fn copied(terms: &[(usize, i128)]) -> ArrayVec<(usize, i128), 21>
@@ -49,7 +49,7 @@ impl Row {
 
 impl Cone {
     /// A copy, or want of memory.
-    pub fn try_copy(&self) -> Result<Cone, AllocError>
+    pub fn try_copy(&self) -> Result<Cone, Memory>
         ensures { IfOk result (λ c. c ≡ self.now) }
     {
         let mut rows = Vec::new(*self.rows.allocator());

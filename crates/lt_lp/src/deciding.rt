@@ -16,10 +16,11 @@ use crate::verdicts::{LpError, Verdict};
 use crate::walls::wall;
 use crate::weighing::weigh;
 use lt_lattice::Normal;
-use std::alloc::{AllocError, Global};
+use lt_model::Memory;
+use std::alloc::Global;
 
 /// The verdict on the k-th of the normals, whose weight is below 2^112.
-pub fn decide_light(alloc: Global, normals: &[Normal], k: usize) -> Result<Verdict, AllocError>
+pub fn decide_light(alloc: Global, normals: &[Normal], k: usize) -> Result<Verdict, Memory>
     requires place { k < length normals.now }
     requires same { All (λ x. length x ≡ length (get_or normals.now 0 [])) normals.now }
     requires positive { (form : List ℤ) × IsPositiveAt form normals.now }

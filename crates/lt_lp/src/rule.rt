@@ -10,8 +10,9 @@ ghost use Rattle.lt_lp.specs.Rule.{objective_of, gain_of, number_of, IsBefore, I
 
 use crate::sums::{are_tiny, first_unit, gains, objective, unit_sums};
 use lt_lattice::Normal;
+use lt_model::Memory;
 use lt_tableau::Tableau;
-use std::alloc::{AllocError, Global};
+use std::alloc::Global;
 
 /// The first column whose reduced cost is negative, unless the objective is 0.
 fn entering(t: &Tableau) -> Option<usize>
@@ -159,7 +160,7 @@ fn run(tableau: Tableau) -> Tableau
 }
 
 /// The tableau of the k-th normal at which the pivot rule stops. The weight of the normals is below 2^112.
-pub fn stopped(alloc: Global, normals: &[Normal], k: usize) -> Result<Tableau, AllocError>
+pub fn stopped(alloc: Global, normals: &[Normal], k: usize) -> Result<Tableau, Memory>
     requires place { k < length normals.now }
     requires same { All (λ x. length x ≡ length (get_or normals.now 0 [])) normals.now }
     requires light { (d : ℕ) → AreOfDimension d normals.now → weight d normals.now < weight_limit }

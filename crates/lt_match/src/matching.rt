@@ -168,10 +168,7 @@ fn candidate_places(
     let mut places = Vec::new(alloc);
     for n in 0..to.len() {
         if others[n].numbers() == own {
-            match places.push(n) {
-                Ok(()) => {}
-                Err(_) => return Err(Memory),
-            }
+            places.push(n)?;
         }
     }
     Ok(places)

@@ -92,10 +92,7 @@ fn image_classes(
 {
     let mut classes = Vec::new(alloc);
     for n in 0..t.len() {
-        match classes.push(image_class(d, u, t.class(n).vertices())) {
-            Ok(()) => {}
-            Err(_) => return Err(Memory),
-        }
+        classes.push(image_class(d, u, t.class(n).vertices()))?;
     }
     Ok(classes)
 }

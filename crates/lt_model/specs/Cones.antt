@@ -3,7 +3,7 @@ use Rattle.std.specs.Prelude.{ℕ, ℤ, pos, ◌<ℤ◌, ◌<◌, ◌≤◌, ◌
 use Rattle.std.specs.List.{All}
 use Rattle.std.specs.List.Sorted.{IsStrictlySortedBy}
 use Rattle.std.specs.Ordering.{nat_cmp}
-use Rattle.lt_model.specs.Vectors.{plus, scale, dot, combine, IsPrimitive}
+use Rattle.lt_model.specs.Vectors.{plus, scale, dot, zeros, combine, IsPrimitive}
 use Rattle.lt_model.specs.Forms.{numbers_of_form}
 use Rattle.lt_model.specs.Walls.{AreRegulators}
 use Rattle.lt_model.specs.Limits.{weight, weight_limit}
@@ -38,6 +38,12 @@ coefficients terms = map (λ p. p.1) terms
 abbrev pub places : List (ℕ × ℤ) → List ℕ
 places terms = map (λ p. p.0) terms
 
+-- the sum of the terms. It starts from as many zeros as the k-th normal has numbers, so that no terms have zeros as
+-- their sum
+abbrev pub sum_of_terms : List (List ℤ) → ℕ → List (ℕ × ℤ) → List ℤ
+sum_of_terms ns k terms =
+    plus (zeros (length (get_or ns k []))) (combine (coefficients terms) (map (λ i. get_or ns i []) (places terms)))
+
 -- factor times the k-th normal is the sum of the terms
 pub record IsRightCombination (d : ℕ) (ns : List (List ℤ)) (k : ℕ) (factor : ℤ) (terms : List (ℕ × ℤ)) : Type 0 where
   pub some : pos 0 <ℤ factor
@@ -48,7 +54,7 @@ pub record IsRightCombination (d : ℕ) (ns : List (List ℤ)) (k : ℕ) (factor
   pub positive : All (λ x. pos 0 <ℤ x) (coefficients terms)
   pub below : AreBelow (2 ^ 62) (factor ∷ coefficients terms)
   pub primitive : IsPrimitive (factor ∷ coefficients terms)
-  pub sum : combine (coefficients terms) (map (λ i. get_or ns i []) (places terms)) ≡ scale factor (get_or ns k [])
+  pub sum : sum_of_terms ns k terms ≡ scale factor (get_or ns k [])
 
 abbrev pub IsRightVerdict : ℕ → List (List ℤ) → ℕ → Verdict → Type 0
 IsRightVerdict d ns k (wall w) = IsRightWall d ns k w
@@ -61,10 +67,10 @@ abbrev pub wall_or_none : Verdict → List ℤ
 wall_or_none (wall w) = w
 wall_or_none (combination factor terms) = []
 
--- the sum of the wall forms
-abbrev pub sum_of_walls : List Row → List ℤ
-sum_of_walls [] = []
-sum_of_walls (r ∷ rows) = plus (wall_or_none r.verdict) (sum_of_walls rows)
+-- the sum of the wall forms, of n numbers each: n zeros where there are none
+abbrev pub sum_of_walls : ℕ → List Row → List ℤ
+sum_of_walls n [] = zeros n
+sum_of_walls n (r ∷ rows) = plus (wall_or_none r.verdict) (sum_of_walls n rows)
 
 pub record IsRightCone (d : ℕ) (t : List (List (List ℤ))) (c : Cone) : Type 0 where
   pub regulators : AreRegulators d t (normals c.rows)
@@ -73,4 +79,4 @@ pub record IsRightCone (d : ℕ) (t : List (List (List ℤ))) (c : Cone) : Type 
   pub primitive : IsPrimitive c.form
   pub factor : ℕ
   pub some : 0 < factor
-  pub sum : sum_of_walls c.rows ≡ scale (pos factor) c.form
+  pub sum : sum_of_walls (numbers_of_form d) c.rows ≡ scale (pos factor) c.form

@@ -67,10 +67,8 @@ fn push_copy(path: &[Point], out: &mut Vec<ArrayVec<Point, 7>>) -> Result<(), Me
     for point in path {
         copy.push(point.copy());
     }
-    match out.push(copy) {
-        Ok(()) => Ok(()),
-        Err(_) => Err(Memory),
-    }
+    out.push(copy)?;
+    Ok(())
 }
 
 /// Adds the paths that go on from `path` by `steps` more steps along coordinates where its last point is 0.

@@ -45,10 +45,7 @@ fn classes_with(alloc: Global, d: usize, all: &[ArrayVec<Point, 7>]) -> Result<V
 {
     let mut classes = Vec::new(alloc);
     for n in 0..all.len() {
-        match classes.push(class_with(d, points_at(all, n))) {
-            Ok(()) => {}
-            Err(_) => return Err(Memory),
-        }
+        classes.push(class_with(d, points_at(all, n)))?;
     }
     Ok(classes)
 }

@@ -1,5 +1,5 @@
 -- The numbers of a right cone are in the ranges of its text.
-use Rattle.std.proofs.Common.{◌≡◌, ℕ, suc, ℤ, pos, nat_abs, ◌+ℤ◌, ◌*ℤ◌, ◌*◌, ◌^◌, ◌<◌, ◌≤◌, inl, inr, refl, sym, ap, ◌∙◌, subst, arith, List, [], ◌∷◌, length, get_or, mul-le-mul}
+use Rattle.std.proofs.Common.{◌≡◌, ℕ, suc, ℤ, pos, nat_abs, ◌+ℤ◌, ◌*ℤ◌, ◌*◌, ◌^◌, ◌<◌, ◌≤◌, refl, sym, ap, ◌∙◌, subst, arith, List, [], ◌∷◌, length, get_or, mul-le-mul}
 use Rattle.std.specs.List.{All, AllByRecursion}
 use Rattle.std.proofs.lemmas.Int.{ints, unsigned_abs-mul}
 use Rattle.std.proofs.lemmas.List.{get_or-map, length-map}
@@ -7,42 +7,34 @@ use Rattle.std.proofs.lemmas.List.Elements.{recursion_from_All, All-head, All-ta
 use Rattle.lt_model.specs.Cones.{Verdict, wall, combination, Row, Cone, AreBelow, normals, coefficients, places, wall_or_none, sum_of_walls, IsRightVerdict, IsRightCone}
 use Rattle.lt_model.specs.Forms.{numbers_of_form}
 use Rattle.lt_model.specs.Padded.{lookup}
-use Rattle.lt_model.specs.Vectors.{plus, scale, IsPrimitive}
+use Rattle.lt_model.specs.Vectors.{plus, scale}
 use Rattle.lt_model.specs.Walls.{IsRegulator}
 use Rattle.lt_model.specs.Atlases.{Classes}
 use Rattle.lt_model.proofs.Squares.{length-scale}
 use Rattle.lt_core.proofs.Crossings.{HasForm}
 use Rattle.lt_core.proofs.FewFacets.{few_rows}
 use Rattle.lt_geometry.proofs.Regulators.{has_regulator, regulators_positive}
-use Rattle.lt_lp.proofs.WallSums.{small_at, long_sum, below_from}
+use Rattle.lt_lp.proofs.WallSums.{small_at, long_sum, below_from, lookup_zeros}
 use Rattle.lt_tableau.proofs.Bounds.{normals_small}
-use Rattle.lt_tableau.proofs.Sums.{lookup_none, lookup_plus, lookup_scale}
+use Rattle.lt_tableau.proofs.Sums.{lookup_plus, lookup_scale}
 use Rattle.lt_scan.specs.Reading as scan
 use Rattle.lt_grammar.specs.Ranges.{TermFits, VerdictFits, RowFits, RowsFit, FormFits, ConeFits}
 
 -- ---- sums of walls
 
-sum_most : (rows : List Row) → ((k : ℕ) (r : Row) (w : List ℤ) → k < length rows → (get_or rows k r).verdict ≡ wall w → AreBelow (2 ^ 62) w) → (q : ℕ) → nat_abs (lookup (sum_of_walls rows) q) ≤ length rows * 2 ^ 62
-sum_most [] h q = rw (lookup_none q) (omega arith)
-sum_most (r ∷ rows) h q = at r.verdict (λ w e. h 0 r w (omega arith) e) (sum_most rows (λ k s w l e. h (suc k) s w (omega (arith, l)) e) q)
+sum_most : (m : ℕ) (rows : List Row) → ((k : ℕ) (r : Row) (w : List ℤ) → k < length rows → (get_or rows k r).verdict ≡ wall w → AreBelow (2 ^ 62) w) → (q : ℕ) → nat_abs (lookup (sum_of_walls m rows) q) ≤ length rows * 2 ^ 62
+sum_most m [] h q = rw (lookup_zeros m q) (omega arith)
+sum_most m (r ∷ rows) h q = at r.verdict (λ w e. h 0 r w (omega arith) e) (sum_most m rows (λ k s w l e. h (suc k) s w (omega (arith, l)) e) q)
   where
-    at : (v : Verdict) → ((w : List ℤ) → v ≡ wall w → AreBelow (2 ^ 62) w) → nat_abs (lookup (sum_of_walls rows) q) ≤ length rows * 2 ^ 62 → nat_abs (lookup (plus (wall_or_none v) (sum_of_walls rows)) q) ≤ length (r ∷ rows) * 2 ^ 62
+    at : (v : Verdict) → ((w : List ℤ) → v ≡ wall w → AreBelow (2 ^ 62) w) → nat_abs (lookup (sum_of_walls m rows) q) ≤ length rows * 2 ^ 62 → nat_abs (lookup (plus (wall_or_none v) (sum_of_walls m rows)) q) ≤ length (r ∷ rows) * 2 ^ 62
     at (combination f ts) g l = omega (arith, l)
     at (wall w) g l =
         let a = small_at w (g w refl) q in
-        let b = lookup_plus w (sum_of_walls rows) q in
-        sum (lookup w q) (lookup (sum_of_walls rows) q) (lookup (plus w (sum_of_walls rows)) q) (length rows) a l b
+        let b = lookup_plus w (sum_of_walls m rows) q in
+        sum (lookup w q) (lookup (sum_of_walls m rows) q) (lookup (plus w (sum_of_walls m rows)) q) (length rows) a l b
       where
         sum : (x y z : ℤ) (n : ℕ) → nat_abs x < 2 ^ 62 → nat_abs y ≤ n * 2 ^ 62 → z ≡ x +ℤ y → nat_abs z ≤ suc n * 2 ^ 62
         sum x y z n h k e = omega (arith, ints, h, k, e)
-
--- an empty list isn't primitive
-none_primitive : (xs : List ℤ) → xs ≡ [] → IsPrimitive xs → ⊥
-none_primitive xs e p = let z = p 0 [] e in omega (arith, z)
-
-no_number_scaled : (c : ℤ) (xs : List ℤ) → scale c xs ≡ [] → xs ≡ []
-no_number_scaled c [] e = refl
-no_number_scaled c (x ∷ xs) e = absurd (cc)
 
 -- a number of a list of which a multiple is small
 factor_small : (f : ℕ) (x : ℤ) (m : ℕ) → 0 < f → nat_abs (pos f *ℤ x) ≤ m → nat_abs x ≤ m
@@ -101,19 +93,15 @@ module _ (d : ℕ) (t : Classes) (c : Cone) (low : 2 ≤ d) (high : d ≤ 6) (fo
   wall_below k r w l e = let x = subst (IsRightVerdict d ns k) e (h.verdicts k r l) in (x.numbers, x.below)
 
   form_long : length c.form ≡ n
-  form_long =
-      elim (long_sum n c.rows (λ k r w l e. (wall_below k r w l e).0)) [
-        | inl e ↦ sym (length-scale (pos h.factor) c.form) ∙ ap length (sym h.sum) ∙ e
-        | inr e ↦ absurd (none_primitive c.form (no_number_scaled (pos h.factor) c.form (sym h.sum ∙ e)) h.primitive)
-      ]
+  form_long = sym (length-scale (pos h.factor) c.form) ∙ ap length (sym h.sum) ∙ long_sum n c.rows (λ k r w l e. (wall_below k r w l e).0)
 
   form_fits : FormFits d c.form
   form_fits = (form_long, recursion_from_All (scan.IsBelow (2 ^ 92)) c.form (below_from (2 ^ 92) c.form each))
     where
       each : (q : ℕ) → nat_abs (lookup c.form q) < 2 ^ 92
       each q =
-          let a = sum_most c.rows (λ k r w l e. (wall_below k r w l e).1) q in
-          let b : lookup (sum_of_walls c.rows) q ≡ pos h.factor *ℤ lookup c.form q = ap (λ (xs : List ℤ). lookup xs q) h.sum ∙ lookup_scale (pos h.factor) c.form q in
+          let a = sum_most n c.rows (λ k r w l e. (wall_below k r w l e).1) q in
+          let b : lookup (sum_of_walls n c.rows) q ≡ pos h.factor *ℤ lookup c.form q = ap (λ (xs : List ℤ). lookup xs q) h.sum ∙ lookup_scale (pos h.factor) c.form q in
           let m : nat_abs (pos h.factor *ℤ lookup c.form q) ≤ length c.rows * 2 ^ 62 = subst (λ (z : ℤ). nat_abs z ≤ length c.rows * 2 ^ 62) b a in
           let x = factor_small h.factor (lookup c.form q) (length c.rows * 2 ^ 62) h.some m in
           let few = few_rows d t c low high form h in

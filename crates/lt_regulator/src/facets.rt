@@ -98,10 +98,7 @@ fn push_regulators_of(all: &mut Vec<Normal>, t: &Triangulation, class: usize) ->
     ensures { IfOk result (λ _. HasRegulatorsBelow t.now (suc class) all.new.items) }
 {
     for facet in 0..usize::from(t.dimension()) + 1 {
-        match all.push(regulator(t, class, facet)) {
-            Ok(()) => {}
-            Err(_) => return Err(Memory),
-        }
+        all.push(regulator(t, class, facet))?;
     }
     Ok(())
 }

@@ -41,10 +41,7 @@ fn those_at(alloc: Global, q: &Form, points: &[Point], least: i128) -> Result<Ve
     let mut vectors = Vec::new(alloc);
     for x in points {
         if value(q, x) == least {
-            match vectors.push(x.copy()) {
-                Ok(()) => {}
-                Err(_) => return Err(Memory),
-            }
+            vectors.push(x.copy())?;
         }
     }
     Ok(vectors)

@@ -75,11 +75,16 @@ module _ (m n : ℕ) where
 
 -- ---- the front of a combination
 
-take-plus : (m : ℕ) (x y : List ℤ) → take m (plus x y) ≡ plus (take m x) (take m y)
+pub take-plus : (m : ℕ) (x y : List ℤ) → take m (plus x y) ≡ plus (take m x) (take m y)
 take-plus zero x y = refl
 take-plus (suc m) [] y = refl
 take-plus (suc m) (a ∷ x) [] = refl
 take-plus (suc m) (a ∷ x) (b ∷ y) = ap (λ (z : List ℤ). (a +ℤ b) ∷ z) (take-plus m x y)
+
+pub take-zeros : (m : ℕ) (x : List ℤ) → take m (zeros (length x)) ≡ zeros (length (take m x))
+take-zeros zero x = refl
+take-zeros (suc m) [] = refl
+take-zeros (suc m) (a ∷ x) = ap (λ (z : List ℤ). pos 0 ∷ z) (take-zeros m x)
 
 pub take-scale : (m : ℕ) (k : ℤ) (x : List ℤ) → take m (scale k x) ≡ scale k (take m x)
 take-scale zero k x = refl

@@ -34,7 +34,7 @@ use Rattle.lt_section.specs.Lowered.{IsLowered}
 use Rattle.lt_section.specs.Rows.{IsSectionFacet, IsWallAt, IsDeadBy, IsZeroEdge, IsRightVerdict}
 use Rattle.lt_section.specs.Decided.{AreNotZeroAt, IsFirstZero, IsFormAt, IsVerdictOn}
 use Rattle.lt_section.proofs.Filling.{length-filled}
-use Rattle.lt_section.proofs.Fronts.{dot-filled, dot-both_filled, take-scale, take-combine}
+use Rattle.lt_section.proofs.Fronts.{dot-filled, dot-both_filled, take-plus, take-zeros, take-scale, take-combine}
 use Rattle.lt_section.proofs.Lowering.{lowered_length, no_multiple}
 use Rattle.lt_section.proofs.Sectioned.{fronts, count, at_place, front_at, normal_at, normal_length, are_section_normals}
 
@@ -130,7 +130,10 @@ module _ (d : ℕ) (t : List (List (List ℤ))) (fs ns : List (List ℤ)) (h : A
     positive = c.positive;
     below = c.below;
     primitive = c.primitive;
-    sum = ap (combine (coefficients terms)) (sym (fronts_of (places terms) c.within)) ∙ sym (take-combine (length fs) (coefficients terms) (map (λ i. get_or ns i []) (places terms)))
+    sum =
+        ap₂ plus (ap (λ (v : List ℤ). zeros (length v)) (front_at d t fs ns h few k lk) ∙ sym (take-zeros (length fs) (get_or ns k [])))
+        (ap (combine (coefficients terms)) (sym (fronts_of (places terms) c.within)) ∙ sym (take-combine (length fs) (coefficients terms) (map (λ i. get_or ns i []) (places terms))))
+        ∙ sym (take-plus (length fs) (zeros (length (get_or ns k []))) (combine (coefficients terms) (map (λ i. get_or ns i []) (places terms))))
         ∙ ap (take (length fs)) c.sum ∙ take-scale (length fs) factor (get_or ns k []) ∙ ap (scale factor) (sym (front_at d t fs ns h few k lk));
   }
 

@@ -91,10 +91,7 @@ fn restricted_normals(
 {
     let mut all = Vec::new(alloc);
     for k in 0..regulators.len() {
-        match all.push(restricted_normal(&regulators[k], forms)) {
-            Ok(()) => {}
-            Err(_) => return Err(Memory),
-        }
+        all.push(restricted_normal(&regulators[k], forms))?;
     }
     Ok(all)
 }

@@ -88,10 +88,7 @@ pub fn rows_of(
             normal: front(normals[k].numbers(), forms.len()),
             verdict: verdict(alloc, normals, k, forms, points)?,
         };
-        match rows.push(row) {
-            Ok(()) => {}
-            Err(_) => return Err(Memory),
-        }
+        rows.push(row)?;
     }
     Ok(rows)
 }

@@ -33,10 +33,7 @@ fn empty_buckets(alloc: Global, count: usize) -> Result<Vec<Vec<(usize, usize)>>
 {
     let mut buckets = Vec::new(alloc);
     for _b in 0..count {
-        match buckets.push(Vec::new(alloc)) {
-            Ok(()) => {}
-            Err(_) => return Err(Memory),
-        }
+        buckets.push(Vec::new(alloc))?;
     }
     Ok(buckets)
 }
@@ -50,10 +47,8 @@ fn put(
     requires { bucket < length (buckets_of buckets.old.items) }
     ensures { IfOk result (λ _. buckets_of buckets.new.items ≡ set (buckets_of buckets.old.items) bucket (get_or (buckets_of buckets.old.items) bucket [] ++ facet ∷ [])) }
 {
-    match buckets[bucket].push(facet) {
-        Ok(()) => Ok(()),
-        Err(_) => Err(Memory),
-    }
+    buckets[bucket].push(facet)?;
+    Ok(())
 }
 
 /// Puts the facets of the class at place `n` into their buckets.

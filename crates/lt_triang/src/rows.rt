@@ -45,15 +45,9 @@ impl Row {
     fn try_copy(&self, alloc: Global) -> Result<Row, Memory>
         ensures { IfOk result (λ r. r ≡ self.now) }
     {
-        let mut facets = match Vec::with_capacity(alloc, self.facets.len()) {
-            Ok(facets) => facets,
-            Err(_) => return Err(Memory),
-        };
+        let mut facets = Vec::with_capacity(alloc, self.facets.len())?;
         for wall in &self.facets {
-            match facets.push(wall.copy()) {
-                Ok(()) => {}
-                Err(_) => return Err(Memory),
-            }
+            facets.push(wall.copy())?;
         }
         Ok(Row { facets })
     }
@@ -133,10 +127,7 @@ pub fn rows_copy(alloc: Global, given: &[Row]) -> Result<Vec<Row>, Memory>
     let mut rows = Vec::new(alloc);
     for row in given {
         let copy = row.try_copy(alloc)?;
-        match rows.push(copy) {
-            Ok(()) => {}
-            Err(_) => return Err(Memory),
-        }
+        rows.push(copy)?;
     }
     Ok(rows)
 }

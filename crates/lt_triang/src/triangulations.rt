@@ -71,10 +71,7 @@ fn classes_copy(alloc: Global, given: &[Class]) -> Result<Vec<Class>, Memory>
 {
     let mut classes = Vec::new(alloc);
     for class in given {
-        match classes.push(class.copy()) {
-            Ok(()) => {}
-            Err(_) => return Err(Memory),
-        }
+        classes.push(class.copy())?;
     }
     Ok(classes)
 }

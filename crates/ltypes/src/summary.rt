@@ -16,11 +16,12 @@ use lt_io::{Failed, Sink};
 use lt_lattice::Normal;
 use lt_lines::{write_line, write_right};
 use lt_lp::Row;
+use lt_model::Memory;
 use lt_tableau::weight;
-use std::alloc::{AllocError, Global};
+use std::alloc::Global;
 
 /// The normals of rows.
-fn normals(alloc: Global, rows: &[Row]) -> Result<Vec<Normal>, AllocError>
+fn normals(alloc: Global, rows: &[Row]) -> Result<Vec<Normal>, Memory>
     ensures { IfOk result (λ v. v.items ≡ normals_of rows.now) }
 {
     let mut all = Vec::new(alloc);
@@ -31,7 +32,7 @@ fn normals(alloc: Global, rows: &[Row]) -> Result<Vec<Normal>, AllocError>
 }
 
 /// The weight of an entry: that of the regulators that its cone lists.
-fn weight_of_entry(alloc: Global, entry: &Entry) -> Result<i128, AllocError>
+fn weight_of_entry(alloc: Global, entry: &Entry) -> Result<i128, Memory>
     ensures { IfOk result (λ w. (d : ℕ) → AreOfDimension d (normals_of (entry_of entry.now).cone.rows) → w ≡ pos
         (weight_of d (entry_of entry.now))) }
 {
@@ -40,7 +41,7 @@ fn weight_of_entry(alloc: Global, entry: &Entry) -> Result<i128, AllocError>
 }
 
 /// The weights of the entries of an atlas.
-pub fn weights_of(alloc: Global, atlas: &Atlas) -> Result<Vec<i128>, AllocError>
+pub fn weights_of(alloc: Global, atlas: &Atlas) -> Result<Vec<i128>, Memory>
     ensures { IfOk result (λ v. v.items ≡ entry_weights atlas.now) }
 {
     atlas.keeps();

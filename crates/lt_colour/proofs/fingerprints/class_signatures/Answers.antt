@@ -8,6 +8,6 @@ pub loop-class-preserved : goal.loop-class-preserved
 loop-class-preserved c =
     let t = c.args.t.now in
     record {
-      count = omega (arith, c.in-Ok-push.ensures.len, c.loop-class.invariant.count);
-      each = rw c.in-Ok-push.ensures.items (each_more (λ k p. IsClassSignature (dimension_of t) t (get_or t k []) p) c.loop-class.all.items c.signature-numbers.result.items [] c.loop-class.class c.loop-class.invariant.count c.loop-class.invariant.each c.signature-numbers.ensures);
+      count = omega (arith, c.in_ok-push.ensures.len, c.loop-class.invariant.count);
+      each = rw c.in_ok-push.ensures.items (each_more (λ k p. IsClassSignature (dimension_of t) t (get_or t k []) p) c.loop-class.all.items c.signature-numbers.result.items [] c.loop-class.class c.loop-class.invariant.count c.loop-class.invariant.each c.signature-numbers.ensures);
     }

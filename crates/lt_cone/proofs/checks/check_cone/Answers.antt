@@ -7,6 +7,7 @@ use lib.Signed.{le_z}
 use Rattle.std.specs.Int.Signed.{le_z_yes}
 use Rattle.std.proofs.lemmas.Bool.{false≢true, not-false, not-true}
 use Rattle.std.specs.Cmp.Rules.{signed_items}
+use Rattle.lt_model.specs.Forms.{numbers_of_form}
 use Rattle.lt_model.specs.Cones.{Row, Cone, normals, sum_of_walls, IsRightVerdict}
 use Rattle.lt_model.specs.Limits.{weight, weight_limit}
 use Rattle.lt_model.specs.Walls.{AreRegulators}
@@ -148,14 +149,13 @@ form_of-requires-clause-few c = (ready c).few
 pub form_of-requires-clause-walls : goal.form_of-requires-clause-walls
 form_of-requires-clause-walls c = (ready c).walls
 
-pub form_of-requires-clause-long : goal.form_of-requires-clause-long
-form_of-requires-clause-long c = (ready c).long
-
 pub form_of-requires-clause-some : goal.form_of-requires-clause-some
 form_of-requires-clause-some c = (ready c).some
 
-reduced : (c : After-form_of) (rows : List Row) → c.as_slice-rows.result.now ≡ rows → IsReduced (sum_of_walls rows) c.form_of.result
-reduced c rows e = subst (λ (xs : List Row). IsReduced (sum_of_walls xs) c.form_of.result) e c.form_of.ensures
+reduced : (c : After-form_of) (rows : List Row) → c.as_slice-rows.result.now ≡ rows → IsReduced (sum_of_walls (numbers_of_form (dimension_of c.args.t.now)) rows) c.form_of.result
+reduced c rows e =
+    subst (λ (d : ℕ). IsReduced (sum_of_walls (numbers_of_form d) rows) c.form_of.result) (dimension_is c.dimension.result c.args.t.now c.dimension.ensures)
+    (subst (λ (xs : List Row). IsReduced (sum_of_walls (numbers_of_form c.dimension.result) xs) c.form_of.result) e c.form_of.ensures)
 
 pub returns-then-ne-clause-wrong : goal.returns-then-ne-clause-wrong
 returns-then-ne-clause-wrong c =
@@ -170,7 +170,7 @@ returns-then-ne-clause-wrong c =
         light_there (goal.at.returns-then-ne-clause-wrong c).After-as_slice-2,
         count_is w,
         right_all w c.if-wrong-count.false,
-        λ p. absurd (false≢true (sym (not-true _ (sym c.if-ne.ensures)) ∙ (signed_items c.cone.inside.form c.form_of.result).1 (form ∙ one_form (sum_of_walls c.args.cone.now.rows) c.args.cone.now.form c.form_of.result p.1 r))),
+        λ p. absurd (false≢true (sym (not-true _ (sym c.if-ne.ensures)) ∙ (signed_items c.cone.inside.form c.form_of.result).1 (form ∙ one_form (sum_of_walls (numbers_of_form d) c.args.cone.now.rows) c.args.cone.now.form c.form_of.result p.1 r))),
       )),
     )
 
@@ -181,8 +181,9 @@ returns-clause-right c =
     let names = names_are b in
     let form : c.cone.inside.form ≡ c.args.cone.now.form = ap (λ (x : Cone). x.form) c.cone.view_is in
     let is : c.args.cone.now.form ≡ c.form_of.result = sym form ∙ (signed_items c.cone.inside.form c.form_of.result).0 (not-false _ (sym c.if-ne.ensures)) in
-    let f : IsReduced (sum_of_walls c.args.cone.now.rows) c.form_of.result = reduced (goal.at.returns-clause-right c).After-form_of c.args.cone.now.rows (rows_are w) in
-    let r : IsReduced (sum_of_walls c.args.cone.now.rows) c.args.cone.now.form = subst (IsReduced (sum_of_walls c.args.cone.now.rows)) (sym is) f in
+    let total = sum_of_walls (numbers_of_form (dimension_of c.args.t.now)) c.args.cone.now.rows in
+    let f : IsReduced total c.form_of.result = reduced (goal.at.returns-clause-right c).After-form_of c.args.cone.now.rows (rows_are w) in
+    let r : IsReduced total c.args.cone.now.form = subst (IsReduced total) (sym is) f in
     record {
       regulators = rw names c.in-Ok.ensures;
       verdicts = rw names (verdicts_are b);

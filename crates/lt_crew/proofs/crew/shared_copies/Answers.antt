@@ -7,4 +7,4 @@ pub loop-k-preserved : goal.loop-k-preserved
 loop-k-preserved c =
     let es = c.args.atlas.now.entries in
     let l : c.loop-k.k < length es = omega (arith, c.loop-k-test.true, c.entries-k-end.ensures) in
-    next_shared c.loop-k.all.items c.push.new.self.items es c.loop-k.k c.in_ok-shared.shared c.loop-k.invariant c.in-Ok.ensures.items l (c.in_ok-shared.ensures ∙ ap (λ (z : Entry). z.triangulation) c.entry.ensures)
+    next_shared c.loop-k.all.items c.push.new.self.items es c.loop-k.k c.in_ok-shared.shared c.loop-k.invariant c.in_ok-push.ensures.items l (c.in_ok-shared.ensures ∙ ap (λ (z : Entry). z.triangulation) c.entry.ensures)

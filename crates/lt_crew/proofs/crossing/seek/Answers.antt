@@ -21,8 +21,8 @@ returns-in-Some-2-clause-found g c =
     (subst (λ r. MatchOption r (AreEquivalent (dimension_of t) t image → ⊥) (λ u. IsFirstMatch (dimension_of t) t image (rows (dimension_of t) u))) c.in-Some-2.is c.in_ok-matrix.ensures.first) in
     subst (λ (z : Classes). IsFirstMatch (dimension_of t) t z (matrix_rows c.in-Some-2.matrix)) c.deref-then-dimension.ensures first
 
-pub returns-then-is_err-clause-kept : goal.returns-then-is_err-clause-kept
-returns-then-is_err-clause-kept g c = test_same c.args.beyond.now c.seeks.test (record { print = c.seeks.test.print; known = c.reserve.new.self; tested = c.seeks.test.tested }) refl c.reserve.ensures.items c.seeks.invariant
+pub returns-in_err-reserve-clause-kept : goal.returns-in_err-reserve-clause-kept
+returns-in_err-reserve-clause-kept g c = test_same c.args.beyond.now c.seeks.test (record { print = c.seeks.test.print; known = c.reserve.new.self; tested = c.seeks.test.tested }) refl c.reserve.ensures.items c.seeks.invariant
 
 pub returns-in_err-matrix-clause-kept : goal.returns-in_err-matrix-clause-kept
 returns-in_err-matrix-clause-kept g c = test_same c.args.beyond.now c.seeks.test (record { print = c.seeks.test.print; known = c.reserve.new.self; tested = c.seeks.test.tested }) refl c.reserve.ensures.items c.seeks.invariant

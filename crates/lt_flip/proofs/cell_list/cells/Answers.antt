@@ -17,8 +17,8 @@ all_cell_points-requires-clause-low c =
 
 pub loop-i-preserved : goal.loop-i-preserved
 loop-i-preserved c = record {
-  points = subst (λ (l : List Cell). points_of l ≡ take (c.loop-i.i + 1) c.sorted_distinct-all.result.items) (sym c.in-Ok.ensures.items) (points_more c.loop-i.cells.items c.cell_of.result c.sorted_distinct-all.result.items c.loop-i.i c.index.result.now (omega (arith, c.loop-i-test.true, c.len-i-end.ensures)) c.loop-i.invariant.points c.cell_of.ensures.points c.index.ensures);
-  dependencies = subst (λ (l : List Cell). All (λ k. IsFlat (length k.points.items - 2) k.points.items k.terms.items) l) (sym c.in-Ok.ensures.items)
+  points = subst (λ (l : List Cell). points_of l ≡ take (c.loop-i.i + 1) c.sorted_distinct-all.result.items) (sym c.in_ok-push.ensures.items) (points_more c.loop-i.cells.items c.cell_of.result c.sorted_distinct-all.result.items c.loop-i.i c.index.result.now (omega (arith, c.loop-i-test.true, c.len-i-end.ensures)) c.loop-i.invariant.points c.cell_of.ensures.points c.index.ensures);
+  dependencies = subst (λ (l : List Cell). All (λ k. IsFlat (length k.points.items - 2) k.points.items k.terms.items) l) (sym c.in_ok-push.ensures.items)
       (All-push (λ k. IsFlat (length k.points.items - 2) k.points.items k.terms.items) c.loop-i.cells.items c.cell_of.result c.loop-i.invariant.dependencies
       (subst (λ (l : List (List ℤ)). IsFlat (length l - 2) l c.cell_of.result.terms.items) (sym c.cell_of.ensures.points) c.cell_of.ensures.dependency));
 }

@@ -5,4 +5,4 @@ pub loop-from-init : goal.loop-from-init
 loop-from-init c = to_none c.args.class.now c.args.to c.args.all.now.items
 
 pub loop-from-preserved : goal.loop-from-preserved
-loop-from-preserved c = rw c.in-Ok.ensures.items (to_more c.args.class.now c.args.to c.loop-from.from c.args.all.now.items c.loop-from.all.items c.edge.result c.loop-from.invariant c.edge.ensures)
+loop-from-preserved c = rw c.in_ok-push.ensures.items (to_more c.args.class.now c.args.to c.loop-from.from c.args.all.now.items c.loop-from.all.items c.edge.result c.loop-from.invariant c.edge.ensures)

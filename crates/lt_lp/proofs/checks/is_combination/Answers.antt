@@ -2,42 +2,35 @@ use Rattle.std.proofs.Common.{arith, refl, ◌≡◌, sym, ◌∙◌, subst, ◌
 use Rattle.std.proofs.lemmas.Int.{to_z-of_z}
 use Rattle.std.proofs.lemmas.List.Elements.{All-cons}
 use Rattle.lt_model.specs.Vectors.{IsPrimitive}
-use Rattle.lt_model.specs.Forms.{numbers_of_form}
 use Rattle.lt_model.specs.Cones.{AreBelow, coefficients}
 use Rattle.lt_tableau.proofs.Turned.{get_or_any}
 use Rattle.lt_lp.specs.Checks.{AreTerms}
 use Rattle.lt_lp.proofs.Checked.{parts_right, right_parts, below_terms}
-use Rattle.lt_lp.proofs.Decided.{some_numbers}
 use Rattle.lt_lp.proofs.checks.is_combination.Goals as goal
 
 no : (b : Bool) → b ≡ false → b ≡ true → ⊥
 no true e f = cc
 no false e f = cc
 
-occupied : (x y : List ℤ) (d : ℕ) → x ≡ y → length x ≡ numbers_of_form d → 2 ≤ d → 0 < length y
-occupied x y d e l h = let a = some_numbers d h in rw (sym e) (let b : 0 < length x = omega arith in b)
-
 pub returns-then-not-are_in_range : goal.returns-then-not-are_in_range
 returns-then-not-are_in_range c = λ d h.
     let ns = c.args.normals.now in
     let k = c.args.k in
-    let e : c.index-normals-k.result ≡ get_or ns k [] = c.index-normals-k.is ∙ get_or_any ns k _ [] c.requires.place in
-    let z : c.index-normals-k-2.result ≡ get_or ns k [] = c.index-normals-k-2.is ∙ get_or_any ns k _ [] c.requires.place in
+    let z : c.index-normals-k.result ≡ get_or ns k [] = c.index-normals-k.is ∙ get_or_any ns k _ [] c.requires.place in
     let n : c.numbers.result.now ≡ get_or ns k [] = c.numbers.ensures.value ∙ z in
     let y = c.ranges.scale in
     let r = simp to_z-of_z at c.are_in_range.ensures in (
       (λ t. absurd (no false refl t)),
-      (λ p. (let q = right_parts d ns k c.args.scale c.args.terms.now h c.requires.place (occupied c.index-normals-k.result (get_or ns k []) c.dimension.result e c.dimension.ensures.value c.dimension.ensures.low) p in
-          absurd (no c.are_in_range.result c.if-not-are_in_range.true (r.1 (q.some, q.small, q.occupied, rw n q.few))))),
+      (λ p. (let q = right_parts d ns k c.args.scale c.args.terms.now h c.requires.place p in
+          absurd (no c.are_in_range.result c.if-not-are_in_range.true (r.1 (q.some, q.small, rw n q.few))))),
     )
 
 pub returns-then-not-are_terms : goal.returns-then-not-are_terms
 returns-then-not-are_terms c = λ d h.
     let ns = c.args.normals.now in
-    let k = c.args.k in
-    let e : c.index-normals-k.result ≡ get_or ns k [] = c.index-normals-k.is ∙ get_or_any ns k _ [] c.requires.place in (
+    let k = c.args.k in (
       (λ t. absurd (no false refl t)),
-      (λ p. (let q = right_parts d ns k c.args.scale c.args.terms.now h c.requires.place (occupied c.index-normals-k.result (get_or ns k []) c.dimension.result e c.dimension.ensures.value c.dimension.ensures.low) p in
+      (λ p. (let q = right_parts d ns k c.args.scale c.args.terms.now h c.requires.place p in
           absurd (no c.are_terms.result c.if-not-are_terms.true (c.are_terms.ensures.1 q.terms)))),
     )
 
@@ -54,10 +47,9 @@ returns-then-not-is_primitive c = λ d h.
     let ns = c.args.normals.now in
     let k = c.args.k in
     let y = c.ranges.scale in
-    let e : c.index-normals-k.result ≡ get_or ns k [] = c.index-normals-k.is ∙ get_or_any ns k _ [] c.requires.place in
     let v : c.as_slice.result.now ≡ c.args.scale ∷ coefficients c.args.terms.now = c.as_slice.ensures.value ∙ (simp to_z-of_z at c.with_scale.ensures) in (
       (λ t. absurd (no false refl t)),
-      (λ p. (let q = right_parts d ns k c.args.scale c.args.terms.now h c.requires.place (occupied c.index-normals-k.result (get_or ns k []) c.dimension.result e c.dimension.ensures.value c.dimension.ensures.low) p in
+      (λ p. (let q = right_parts d ns k c.args.scale c.args.terms.now h c.requires.place p in
           absurd (no c.is_primitive.result c.if-not-is_primitive.true (c.is_primitive.ensures.1 (subst IsPrimitive (sym v) q.primitive))))),
     )
 
@@ -66,14 +58,13 @@ returns c = λ d h.
     let ns = c.args.normals.now in
     let k = c.args.k in
     let y = c.ranges.scale in
-    let e : c.index-normals-k.result ≡ get_or ns k [] = c.index-normals-k.is ∙ get_or_any ns k _ [] c.requires.place in
-    let z : c.index-normals-k-2.result ≡ get_or ns k [] = c.index-normals-k-2.is ∙ get_or_any ns k _ [] c.requires.place in
+    let z : c.index-normals-k.result ≡ get_or ns k [] = c.index-normals-k.is ∙ get_or_any ns k _ [] c.requires.place in
     let n : c.numbers.result.now ≡ get_or ns k [] = c.numbers.ensures.value ∙ z in
     let r = (simp to_z-of_z at c.are_in_range.ensures).0 c.if-not-are_in_range.false in
     let t : AreTerms 0 (length ns) k c.args.terms.now = c.are_terms.ensures.0 c.if-not-are_terms.false in
     let v : c.as_slice.result.now ≡ c.args.scale ∷ coefficients c.args.terms.now = c.as_slice.ensures.value ∙ (simp to_z-of_z at c.with_scale.ensures) in
     let i : IsPrimitive (c.args.scale ∷ coefficients c.args.terms.now) = subst IsPrimitive v (c.is_primitive.ensures.0 c.if-not-is_primitive.false) in
     let m = simp to_z-of_z at c.sums_match.ensures in (
-      (λ b. parts_right d ns k c.args.scale c.args.terms.now h c.requires.place record { some = r.0; small = r.1; occupied = r.2; few = rw n at r.3; terms = t; primitive = i; sums = m.0 b }),
-      (λ p. m.1 (right_parts d ns k c.args.scale c.args.terms.now h c.requires.place (occupied c.index-normals-k.result (get_or ns k []) c.dimension.result e c.dimension.ensures.value c.dimension.ensures.low) p).sums),
+      (λ b. parts_right d ns k c.args.scale c.args.terms.now h c.requires.place record { some = r.0; small = r.1; few = rw n at r.2; terms = t; primitive = i; sums = m.0 b }),
+      (λ p. m.1 (right_parts d ns k c.args.scale c.args.terms.now h c.requires.place p).sums),
     )

@@ -6,6 +6,7 @@ use Rattle.lt_model.specs.Cones.{Row, wall, combination, sum_of_walls}
 use Rattle.lt_lp.specs.Verdicts.{verdict_of}
 use Rattle.lt_tableau.proofs.Turned.{taken}
 use Rattle.lt_lp.proofs.Combined.{same_lists}
+use Rattle.lt_lp.proofs.RowSums.{walls_long}
 use Rattle.lt_lp.proofs.WallSums.{lookup_zeros, wall_step, none_step, no_more, below_from}
 use Rattle.lt_lp.proofs.cone_forms.sum_of.Goals.{in-Wall, in-Combination}
 use Rattle.lt_lp.proofs.cone_forms.sum_of.Goals as goal
@@ -13,7 +14,7 @@ use Rattle.lt_lp.proofs.cone_forms.sum_of.Goals as goal
 pub loop-k-init : goal.loop-k-init
 loop-k-init c = record {
   size = ap (length {A = ℤ}) c.zeros_of-sums.ensures ∙ length-zeros c.args.count;
-  sums = λ q. rw (zero_at q) (plus_zero (lookup (sum_of_walls c.args.rows.now) q));
+  sums = λ q. rw (zero_at q) (plus_zero (lookup (sum_of_walls c.args.count c.args.rows.now) q));
   small = λ q. rw (zero_at q) (omega arith);
 }
   where
@@ -37,13 +38,13 @@ loop-k-preserved c =
           let s : (q : ℕ) → lookup new q ≡ lookup old q +ℤ lookup w.in-Wall.form q = λ q. ap (λ (xs : List ℤ). lookup xs q) e ∙ w.add.ensures.sums q ∙ rw (w.as_mut_slice.ensures.value, w.numbers.ensures.value) refl in
           record {
             size = ap (length {A = ℤ}) e ∙ w.add.ensures.length ∙ ap (length {A = ℤ}) w.as_mut_slice.ensures.value ∙ c.loop-k.invariant.size;
-            sums = wall_step rows k c.index-rows-k.result w.in-Wall.form (lookup old) (lookup new) c.loop-k-test.true f c.loop-k.invariant.sums s;
+            sums = wall_step c.args.count rows k c.index-rows-k.result w.in-Wall.form (lookup old) (lookup new) c.loop-k-test.true f c.loop-k.invariant.sums s;
             small = λ q. rw e (w.add.ensures.small q);
           }
       | in-Combination w ↦
           let e : new ≡ old = ap (λ x. x.items) w.sums-is in
           let f : (get_or rows k c.index-rows-k.result).verdict ≡ combination w.in-Combination.scale w.in-Combination.terms.items = v ∙ ap verdict_of w.in-Combination.is in
-          let s = none_step rows k c.index-rows-k.result w.in-Combination.scale w.in-Combination.terms.items c.loop-k-test.true f in
+          let s = none_step c.args.count rows k c.index-rows-k.result w.in-Combination.scale w.in-Combination.terms.items c.loop-k-test.true f in
           record {
             size = ap (length {A = ℤ}) e ∙ c.loop-k.invariant.size;
             sums = λ q. rw (e, ← s) (c.loop-k.invariant.sums q);
@@ -55,7 +56,7 @@ loop-k-preserved c =
     more n k h = omega arith
 
 pub returns-clause-value : goal.returns-clause-value
-returns-clause-value c = same_lists c.loop-k.sums.items (sum_of_walls c.args.rows.now) (c.loop-k.invariant.size ∙ sym c.requires.long) (λ q l. minus_none (lookup c.loop-k.sums.items q) (lookup (sum_of_walls (drop c.loop-k.k c.args.rows.now)) q) (lookup (sum_of_walls c.args.rows.now) q) (no_more c.args.rows.now c.loop-k.k q c.loop-k-test.false) (c.loop-k.invariant.sums q))
+returns-clause-value c = same_lists c.loop-k.sums.items (sum_of_walls c.args.count c.args.rows.now) (c.loop-k.invariant.size ∙ sym (walls_long c.args.d c.args.count c.args.rows.now c.requires.count c.requires.walls)) (λ q l. minus_none (lookup c.loop-k.sums.items q) (lookup (sum_of_walls c.args.count (drop c.loop-k.k c.args.rows.now)) q) (lookup (sum_of_walls c.args.count c.args.rows.now) q) (no_more c.args.count c.args.rows.now c.loop-k.k q c.loop-k-test.false) (c.loop-k.invariant.sums q))
   where
     minus_none : (x y z : ℤ) → y ≡ pos 0 → x +ℤ y ≡ z → x ≡ z
     minus_none x y z h k = omega (arith, ints)

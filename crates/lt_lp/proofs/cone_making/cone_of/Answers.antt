@@ -27,9 +27,6 @@ form_of-form-requires-clause-few c = rw (c.as_slice.ensures.value) (ready c).few
 pub form_of-form-requires-clause-walls : goal.form_of-form-requires-clause-walls
 form_of-form-requires-clause-walls c = rw (c.as_slice.ensures.value) (ready c).walls
 
-pub form_of-form-requires-clause-long : goal.form_of-form-requires-clause-long
-form_of-form-requires-clause-long c = rw (c.as_slice.ensures.value) (ready c).long
-
 pub form_of-form-requires-clause-some : goal.form_of-form-requires-clause-some
 form_of-form-requires-clause-some c = rw (c.as_slice.ensures.value) (ready c).some
 

@@ -9,4 +9,4 @@ loop-k-preserved c =
     let ns = c.args.normals.now in
     let k = c.loop-k.k in
     let n = c.front.ensures ∙ ap (take (length fs)) (c.numbers.ensures.value ∙ c.index-normals-k.is ∙ get_or_default ns k c.index-normals-k.result [] c.loop-k-test.true) in
-    rows_more fs ns c.args.points.now k c.loop-k.rows.items c.push.new.self.items (record { normal = c.front.result; verdict = c.in_ok-verdict.field-0 }) c.loop-k.invariant c.loop-k-test.true n c.in_ok-verdict.ensures c.in-Ok.ensures.items
+    rows_more fs ns c.args.points.now k c.loop-k.rows.items c.push.new.self.items (record { normal = c.front.result; verdict = c.in_ok-verdict.field-0 }) c.loop-k.invariant c.loop-k-test.true n c.in_ok-verdict.ensures c.in_ok-push.ensures.items
