@@ -3,6 +3,7 @@
 ghost use Rattle.std.specs.Prelude.{◌≡◌, ◌<◌, ◌≤◌, ◌+◌, ◌*◌, map, length, false, true, []};
 ghost use Rattle.std.specs.Result.{IfOk};
 ghost use Rattle.lt_model.specs.Atlases.{begin};
+ghost use Rattle.lt_model.specs.Limits.{most_steps};
 ghost use Rattle.std.specs.Arc.{arc_value};
 ghost use Rattle.std.specs.Thread.{IsSync};
 ghost use Rattle.lt_claim.specs.Passes.{left_of, share_of, IsOf};
@@ -148,7 +149,7 @@ fn finish<L: Ledger>(
 ) -> Ended
     requires unrun { copy.log ≡ [] }
     requires few { length copy.entries ≤ 100001 }
-    requires steps { steps ≤ 100000 }
+    requires steps { steps ≤ most_steps }
     ensures begins { begin result.atlas ≡ copy }
     ensures done { result.done ≡ length result.atlas.log }
     ensures below { AreBelow steps result.atlas.log }
@@ -181,7 +182,7 @@ fn run_in<L: Ledger + Send + Sync, R: Threads + Wait + Sync, G: Gate>(
     requires one_each { blank.parts ≡ workers }
     requires unrun { atlas.log ≡ [] }
     requires few { length atlas.entries ≤ 100001 }
-    requires steps { steps ≤ 100000 }
+    requires steps { steps ≤ most_steps }
     requires some { 0 < workers }
     requires crowd { workers ≤ 64 }
     ensures begins { begin result.atlas ≡ atlas }
@@ -234,7 +235,7 @@ pub fn enumerate<R: Threads + Wait + Sync, G: Gate>(
 ) -> Ended
     requires unrun { atlas.log ≡ [] }
     requires few { length atlas.entries ≤ 100001 }
-    requires steps { steps ≤ 100000 }
+    requires steps { steps ≤ most_steps }
     requires some { 0 < workers }
     requires crowd { workers ≤ 64 }
     ensures begins { begin result.atlas ≡ atlas }

@@ -4,6 +4,7 @@ ghost use Rattle.std.specs.Prelude.{◌≡◌, ◌≢◌, ◌<◌, ◌≤◌, �
 ghost use Rattle.std.specs.Result.{OnOk, OnErr, IfOk, IfErr};
 ghost use Rattle.std.specs.Option.{IfSome};
 ghost use Rattle.std.specs.Arc.{arc_value};
+ghost use Rattle.lt_model.specs.Limits.{most_steps};
 ghost use Rattle.lt_crew.specs.Runs.{AreBelow, AreSettled};
 ghost use Rattle.lt_crew.specs.Shared.{triangulation_of};
 
@@ -55,7 +56,7 @@ pub struct Desk<L: Ledger> {
     ghost all_shared: { map arc_value shared.items ≡ map triangulation_of atlas.entries },
     ghost below: { AreBelow steps atlas.log },
     ghost settled: { AreSettled atlas },
-    ghost few_steps: { steps ≤ 100000 },
+    ghost few_steps: { steps ≤ most_steps },
     ghost few: { length atlas.entries ≤ 100001 + length atlas.log },
 }
 
@@ -100,7 +101,7 @@ impl<L: Ledger> Desk<L> {
     ) -> Desk<L>
         requires unrun { atlas.log ≡ [] }
         requires few { length atlas.entries ≤ 100001 }
-        requires steps { steps ≤ 100000 }
+        requires steps { steps ≤ most_steps }
         requires all_shared { map arc_value shared.items ≡ map triangulation_of atlas.entries }
         requires empty { book.total ≡ 0 }
         ensures atlas { result.atlas ≡ atlas }
@@ -121,7 +122,7 @@ impl<L: Ledger> Desk<L> {
         ensures parts { (result.0 ≡ self.atlas) × (result.1 ≡ self.steps) × (result.2 ≡ self.memory) }
         ensures below { AreBelow result.1 result.0.log }
         ensures settled { AreSettled result.0 }
-        ensures few_steps { result.1 ≤ 100000 }
+        ensures few_steps { result.1 ≤ most_steps }
         ensures few { length result.0.entries ≤ 100001 + length result.0.log }
         ensures gathered { all.old.parts ≡ L.parts → all.new.amount ≡ length result.0.log }
     {

@@ -39,13 +39,21 @@ descending (x ∷ xs) = put x (descending xs)
 abbrev pub weight : ℕ → List (List ℤ) → ℕ
 weight d ns = min (2 ^ 120) (product (take (suc (numbers_of_form d)) (descending (map (λ n. suc (nat_abs (dot n n))) ns))))
 
+-- the greatest span limit, which is that of the lowest dimension
+abbrev pub widest : ℕ
+widest = 400
+
 -- the greatest span of an entry of an atlas of dimension d
 abbrev pub span_limit : ℕ → ℕ
-span_limit d = cond (nat_le d 5) 400 100
+span_limit d = cond (nat_le d 5) widest 100
+
+-- the greatest step limit, which is that of the lowest dimension
+abbrev pub most_steps : ℕ
+most_steps = 100000
 
 -- the greatest step limit of a run in dimension d
 abbrev pub step_limit : ℕ → ℕ
-step_limit d = cond (nat_le d 5) 100000 2000
+step_limit d = cond (nat_le d 5) most_steps 2000
 
 -- the greatest number of bytes of an input of dimension d
 abbrev pub input_limit : ℕ → ℕ

@@ -11,3 +11,7 @@ number_list_cmp = slice_cmp int_cmp
 -- simplices compared vertex by vertex
 abbrev pub simplex_cmp : List (List ℤ) → List (List ℤ) → Ordering
 simplex_cmp = slice_cmp number_list_cmp
+
+-- triangulations compared class by class
+abbrev pub triangulation_cmp : List (List (List ℤ)) → List (List (List ℤ)) → Ordering
+triangulation_cmp = slice_cmp simplex_cmp

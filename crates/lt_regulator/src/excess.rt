@@ -4,6 +4,7 @@ ghost use Rattle.std.specs.Prelude.{◌≡◌, ◌<◌, ◌≤◌, ◌*◌, ◌^
 ghost use Rattle.std.specs.List.{All, AllByRecursion};
 ghost use Rattle.lt_model.specs.Vectors.{plus, scale};
 ghost use Rattle.lt_model.specs.Cones.{AreBelow};
+ghost use Rattle.lt_model.specs.Limits.{widest};
 ghost use Rattle.lt_model.specs.Simplices.{AllOfDimension};
 ghost use Rattle.lt_model.specs.Walls.{excess_normal};
 ghost use Rattle.lt_lattice.specs.Ranges.{IsWithin, IsBelow};
@@ -48,9 +49,9 @@ pub fn excess_of(d: usize, s: &[Point], w: &Point, e: &Expression) -> ArrayVec<i
     requires high { d ≤ 6 }
     requires count { length s.now ≡ suc d }
     requires points { AllOfDimension d s.now }
-    requires near { AreWithin 400 s.now }
+    requires near { AreWithin widest s.now }
     requires dimension { length w.now ≡ d }
-    requires near_too { All (IsWithin 800) w.now }
+    requires near_too { All (IsWithin (2 * widest)) w.now }
     requires one_each { length e.now.coefficients.items ≡ suc d }
     requires below { AreBelow (2 ^ 59) (e.now.scale ∷ e.now.coefficients.items) }
     ensures value { result.items ≡ excess_normal s.now w.now e.now.scale e.now.coefficients.items }

@@ -10,19 +10,11 @@ ghost use Rattle.lt_triang.specs.Bounds.{AreNear};
 
 use lt_lattice::Point;
 
-/// The greatest span of an entry in dimension `d`.
-fn limit(d: u8) -> u32
-    ensures value { result ≡ limits.span_limit d }
-    ensures small { result ≤ 400 }
-{
-    if d <= 5 { 400 } else { 100 }
-}
-
-/// The span limit: the greatest span of an entry in dimension `d`.
+/// The span limit, the greatest span of an entry in dimension `d`, as a signed number.
 pub fn span_limit(d: u8) -> i64
     ensures { result ≡ pos (limits.span_limit d) }
 {
-    i64::from(limit(d))
+    i64::from(lt_model::span_limit(d))
 }
 
 /// The greatest absolute difference of two points in one coordinate.
@@ -71,5 +63,5 @@ pub fn are_near(points: &[Point]) -> bool
     ensures { IsTrue result ↔ AreNear (2 * limits.span_limit (length points.now - 1)) points.now }
 {
     let d = points.len() - 1;
-    span_of(d, points) <= 2 * limit(d as u8)
+    span_of(d, points) <= 2 * lt_model::span_limit(d as u8)
 }

@@ -24,6 +24,7 @@ use crate::walls::Wall;
 use lt_lattice::Point;
 use lt_model::Memory;
 use std::alloc::Global;
+use std::cmp::Ordering;
 use std::marker::Model;
 
 /// The classes of a triangulation in ascending order: at least one, each with a span within the limit, and each facet of each lies in
@@ -253,4 +254,44 @@ impl Eq for Triangulation {
     ghost use Rattle.std.proofs.Common.{rules};
 
     ghost laws = { Prim.search (comparing, rules) };
+}
+
+impl PartialOrd for Triangulation {
+    ghost use Rattle.std.specs.declared.option.Option.TheVariants.{Some};
+    ghost use Rattle.std.specs.Cmp.Lexicographic.{slice_cmp, lists_total, lists_ties};
+    ghost use Rattle.std.specs.Cmp.{po, int_cmp_total};
+    ghost use Rattle.std.specs.Ordering.{int_cmp};
+    ghost use Rattle.std.proofs.Common.{refl};
+    ghost use Rattle.lt_model.specs.Order.{triangulation_cmp};
+
+    ghost partial_cmp = { λ t u. Some (triangulation_cmp t u) };
+
+    ghost laws = { po (lists_total (lists_total (lists_total int_cmp_total))) (lists_ties (slice_cmp (slice_cmp int_cmp)) (lists_ties (slice_cmp int_cmp) (lists_ties int_cmp (λ x y. refl)))) };
+
+    fn partial_cmp(&self, other: &Triangulation) -> Option<Ordering> {
+        Some(self.cmp(other))
+    }
+}
+
+impl Ord for Triangulation {
+    ghost use Rattle.std.specs.Cmp.Lexicographic.{slice_cmp, lists_total, lists_ties};
+    ghost use Rattle.std.specs.Cmp.{int_cmp_total};
+    ghost use Rattle.std.specs.Ordering.{int_cmp};
+    ghost use Rattle.std.proofs.Common.{refl};
+    ghost use Rattle.lt_model.specs.Order.{triangulation_cmp};
+
+    ghost cmp = { triangulation_cmp };
+
+    ghost total = { lists_total (lists_total (lists_total int_cmp_total)) };
+
+    ghost matches_partial_cmp = { λ x y. refl };
+
+    ghost matches_eq = { lists_ties (slice_cmp (slice_cmp int_cmp)) (lists_ties (slice_cmp int_cmp) (lists_ties int_cmp (λ x y. refl))) };
+
+    /// The order of the lists of classes.
+    fn cmp(&self, other: &Triangulation) -> Ordering
+        ensures { result ≡ triangulation_cmp self.now other.now }
+    {
+        self.classes.as_slice().cmp(other.classes.as_slice())
+    }
 }

@@ -3,7 +3,7 @@ use Rattle.std.specs.Prelude.{◌≡◌, ℕ, ℤ, suc, ◌+◌, ◌^◌, ◌<�
 use Rattle.std.specs.Fmt.{decimal, signed_decimal}
 use Rattle.std.specs.List.{All, flat_map}
 use Rattle.lt_model.specs.Forms.{numbers_of_form}
-use Rattle.lt_model.specs.Limits.{step_limit}
+use Rattle.lt_model.specs.Limits.{most_steps, step_limit}
 use Rattle.lt_lattice.specs.Ranges.{IsWithin}
 use Rattle.lt_words.specs.declared.words.Command.{Command}
 use Rattle.lt_words.specs.declared.words.Command.TheVariants.{Principal, Summary, Check, Run, Drill, Locate, Cover, Relevant, Shortest, Section, Merge, Convert}
@@ -26,10 +26,6 @@ IsDimension d = (2 ≤ d) × (d ≤ 6)
 -- the greatest number of workers of a run
 abbrev pub most_workers : ℕ
 most_workers = 64
-
--- the greatest number of steps of a run in any dimension, which is that of the lowest
-abbrev pub most_steps : ℕ
-most_steps = step_limit 2
 
 -- the greatest number of turns of a drill in dimension d
 abbrev pub most_turns : ℕ → ℕ

@@ -1,7 +1,6 @@
 //! The ranges of the numbers of commands.
 
 ghost use Rattle.std.specs.Prelude.{◌≡◌};
-ghost use Rattle.lt_model.specs.Limits as limits;
 ghost use Rattle.lt_words.specs.Grammar.{most_turns};
 
 /// The lowest dimension.
@@ -21,14 +20,6 @@ pub const MOST_IN_SECTION: u64 = 4_096;
 
 /// The greatest absolute value of a number of a form.
 pub const MOST_OF_FORM: u64 = 1 << 40;
-
-/// The greatest number of steps of a run in dimension `d`, which a run takes where none is named. It is greatest in
-/// the lowest dimension.
-pub fn step_limit(d: u8) -> u64
-    ensures { result ≡ limits.step_limit d }
-{
-    if d <= 5 { 100_000 } else { 2_000 }
-}
 
 /// The greatest number of turns of a drill in dimension `d`.
 pub fn turn_limit(d: u8) -> u64

@@ -5,9 +5,10 @@ ghost use Rattle.std.specs.Fmt.{decimal};
 ghost use Rattle.lt_words.specs.Grammar.{texts, IsInSetting, InRange, Spells, FaultAt, place_of, setting_word};
 ghost use Rattle.lt_words.specs.Parts.{HasFront, IsPart, part_word};
 
-use crate::limits::{LOWEST, step_limit};
+use crate::limits::LOWEST;
 use crate::numbers::{dimension_of, number_of};
 use crate::words::{Command, WordsError};
+use lt_model::step_limit;
 
 /// The greatest number of workers.
 const MOST_WORKERS: u64 = 64;

@@ -103,7 +103,8 @@ module _ (d : ℕ) (a : Atlas) (run : IsOfRun a) (at : a.dimension ≡ d) (few :
 
 -- a count that stays 0 didn't rise
 pub never_rose : Rose 0 0 → ⊥
-never_rose h = omega (arith, h)
+never_rose (inl h) = omega (arith, h)
+never_rose (inr h) = omega (arith, h.0)
 
 -- ---- the end
 

@@ -15,4 +15,4 @@ told m n ps e =
     ]
 
 pub returns : goal.returns
-returns c = rw c.limit.ensures.value (told (2 * span_limit (length c.args.points.now - 1)) c.span_of.result c.args.points.now c.span_of.ensures)
+returns c = rw c.span_limit.ensures.value (told (2 * span_limit (length c.args.points.now - 1)) c.span_of.result c.args.points.now c.span_of.ensures)
