@@ -11,6 +11,7 @@ TOP = Path(__file__).resolve().parent.parent
 USE = re.compile(r"^(?:pub )?use (?:Rattle\.)?([^\s{]+?)(?:\.\{(.*)\}| as (\S+))?$")
 SECTION = re.compile(r"^( *)module _ (.*) where$")
 SIGNATURE = re.compile(r"^( *)((?:abbrev |pub |record |data )*)([^\s:(){}]+)((?: [({].*?[)}])*) : (.*)$")
+HEAD = re.compile(r"^( *)(?:abbrev |pub |record |data |module )*[^\s:(){}]+ (?:[({].*|: .*|:)$")
 TOKEN = re.compile(r"[(){}\[\],;]|[^\s(){}\[\],;]+")
 OPEN = {"(": ")", "{": "}", "[": "]"}
 DATA = {"ℕ", "ℤ", "Bool", "List", "Option", "Vec", "Type", "Unit", "×", "Ordering"}
@@ -46,14 +47,30 @@ def place_of(path: Path) -> str:
     return ".".join(path.relative_to(TOP / "crates").with_suffix("").parts)
 
 
+def outside(text: str) -> str:
+    """A text without what stands in brackets."""
+    while True:
+        shorter = re.sub(r"\([^()]*\)|\{[^{}]*\}|\[[^\[\]]*\]", "", text)
+        if shorter == text:
+            return text
+        text = shorter
+
+
+def goes_on(head: str, line: str) -> bool:
+    """Whether a line goes on with the signature that the lines before it began: it stands deeper, and no body has begun."""
+    begun = HEAD.match(head)
+    if not begun or re.search(r" =( |$)", outside(head)) or head.endswith(" where"):
+        return False
+    return len(line) - len(line.lstrip()) > len(begun[1]) and not re.match(r" *unfolding ", line)
+
+
 def joined(text: str) -> list[tuple[int, str]]:
     """The lines of a text with the numbers that they have, signatures that go on in deeper lines joined; comments are left out."""
     lines: list[tuple[int, str]] = []
     for number, line in enumerate(text.splitlines(), 1):
         if not line.strip() or line.lstrip().startswith("--"):
             continue
-        more = re.search(r"(→|×|⊎| :)$", lines[-1][1]) if lines else None
-        if lines and line[0] == " " and (more or re.match(r" +→ ", line)):
+        if lines and goes_on(lines[-1][1], line):
             lines[-1] = (lines[-1][0], lines[-1][1] + " " + line.strip())
         else:
             lines.append((number, line))
@@ -233,7 +250,7 @@ def normal(files: dict[str, File], file: File, declaration: Declaration, words: 
     text = f"{declaration.telescope} {declaration.type}"
     if declaration.fields:
         fields = " ".join(f"({name} : {kind})" for name, kind in declaration.fields)
-        text = f"{declaration.telescope} {fields} Record"
+        text = f"{declaration.telescope} where {fields} Record"
     elif not declaration.telescope:
         text = declaration.type
     return numbered(Normal(files, file, words).form(tree(TOKEN.findall(text)), {}))

@@ -9,28 +9,29 @@ use Rattle.std.specs.Ordering.{MatchOrdering, int_cmp, ordering_then}
 use Rattle.std.specs.Cmp.{int_cmp_is, int_ranks}
 use Rattle.std.proofs.lemmas.List.Elements.{Contains-append_left, Contains-append_right}
 use Rattle.lt_model.proofs.Ring.{ring, var, num, ◌⊗◌}
-use Rattle.lt_model.proofs.Vectors.{dot-plus, dot-scale, dot_comm, scale-scale}
+use Rattle.lt_model.proofs.Vectors.{dot-plus, dot-scale, dot_comm}
 use Rattle.lt_model.proofs.Squares.{length-scale}
 use Rattle.lt_model.proofs.Excess.{dot-combine, same_from_dots, scale-dot}
 use Rattle.lt_model.proofs.Walk.{length-combine, length-map}
-use Rattle.lt_geometry.proofs.Motions.{minus_itself}
 use Rattle.lt_geometry.proofs.LocalWalk.{zeros-plus}
-use Rattle.lt_geometry.proofs.WalkEnds.{scale-one}
 use Rattle.lt_model.proofs.Opposite.{length-zeros, zeros-dot}
 use Rattle.lt_model.proofs.Dependent.{map-map_vectors, length-map_vectors}
 use Rattle.lt_model.proofs.Moved.{translate-back, simplex_moved}
 use Rattle.lt_geometry.proofs.LocalWalk.{empty_moved}
-use Rattle.lt_geometry.proofs.Whole.{ascending_translate}
 use Rattle.lt_model.proofs.Sets.{Contains-head, Contains-tail, Contains-cases, Contains-none, same_members, number_list_cmp_total}
 use Rattle.lt_model.specs.Order.{number_list_cmp}
 use Rattle.lt_model.specs.Vectors.{plus, scale, dot, total, combine, zeros}
 use Rattle.lt_model.specs.Forms.{value}
 use Rattle.lt_model.specs.Simplices.{AllOfDimension, IsSimplex, IsClass, IsClassOf, IsExpression, IsStrictlyEmpty, excess, translate}
 use Rattle.lt_model.specs.Triangulations.{IsDelaunay}
+use Rattle.lt_model.proofs.Translates.{ascending_translate, from_translate}
+use Rattle.lt_model.proofs.Points.{minus_itself, opposite_twice}
 use Rattle.lt_laws.specs.Negatives.{negated}
 use Rattle.lt_geometry.proofs.Reading.{dot-append_both}
 use Rattle.lt_geometry.proofs.Closed.{get_dimension}
 use Rattle.lt_geometry.proofs.Parity.{value-negative, one_of_two, index_of}
+use Rattle.lt_geometry.proofs.Classes.{first_of_translate}
+use Rattle.lt_geometry.proofs.Sides.{at_place}
 
 abbrev pub backward : {X : Type 0} → List X → List X
 backward [] = []
@@ -136,9 +137,6 @@ turned_linear u b vs l =
     let e : (v : List ℤ) → dot u (scale (negsuc 0) v) ≡ dot (scale (negsuc 0) u) v = λ v. dot-scale u (negsuc 0) v ∙ sym (scale-dot (negsuc 0) u v) in
     dot-combine u b (turned_round vs) ∙ dot-turned (dot u) b vs l ∙ ap (dot (backward b)) (map_each (λ v. dot u (scale (negsuc 0) v)) (dot (scale (negsuc 0) u)) vs e) ∙ sym (dot-combine (scale (negsuc 0) u) (backward b) vs) ∙ scale-dot (negsuc 0) u (combine (backward b) vs)
 
-pub twice_negative : (x : List ℤ) → scale (negsuc 0) (scale (negsuc 0) x) ≡ x
-twice_negative x = scale-scale (negsuc 0) (negsuc 0) x ∙ scale-one x
-
 negated_all : (d : ℕ) (vs : List (List ℤ)) → AllOfDimension d vs → AllOfDimension d (negated vs)
 negated_all d [] a = tt
 negated_all d (v ∷ vs) a = (length-scale (negsuc 0) v ∙ a.0, negated_all d vs a.1)
@@ -194,7 +192,7 @@ turned_empty d q vs s e = record {
   outside = λ x c b lx h. subst (λ (n : ℤ). pos 0 ≤ℤ n) (sym (same x c b lx h)) (e.outside (scale (negsuc 0) x) c (backward b) (length-scale (negsuc 0) x ∙ lx) (turned_expression_back d vs x c b s lx h));
   touches = λ x c b lx h z.
       let m : Contains vs (scale (negsuc 0) x) = e.touches (scale (negsuc 0) x) c (backward b) (length-scale (negsuc 0) x ∙ lx) (turned_expression_back d vs x c b s lx h) (sym (same x c b lx h) ∙ z) in
-      backward_has (negated vs) x (subst (λ (w : List ℤ). Contains (negated vs) w) (twice_negative x) (negated_has vs (scale (negsuc 0) x) m));
+      backward_has (negated vs) x (subst (λ (w : List ℤ). Contains (negated vs) w) (opposite_twice x) (negated_has vs (scale (negsuc 0) x) m));
 }
   where
     same : (x : List ℤ) (c : ℤ) (b : List ℤ) → length x ≡ d → IsExpression (turned_round vs) x c b → excess q (turned_round vs) x c b ≡ excess q vs (scale (negsuc 0) x) c (backward b)
@@ -232,10 +230,6 @@ turned_ascending d (v ∷ vs) all s =
     sorted_last (turned_round vs) (scale (negsuc 0) v) (turned_ascending d vs all.1 s.1) (all-backward (λ z. number_list_cmp z (scale (negsuc 0) v) ≡ Less) (negated vs) (below_turned d v vs all.0 all.1 s.0))
 
 -- ---- the class of a set of points is unique
-
-pub first_of_translate : (p : List ℤ) (vs : List (List ℤ)) → 0 < length vs → get_or (translate p vs) 0 [] ≡ plus (get_or vs 0 []) p
-first_of_translate p [] h = absurd (omega arith)
-first_of_translate p (v ∷ vs) h = refl
 
 pub one_class : (d : ℕ) (ps s s' : List (List ℤ)) → IsClassOf d ps s → IsClassOf d ps s' → s ≡ s'
 one_class d ps s s' h k =
@@ -290,19 +284,6 @@ negative_empty d q s c e =
 
 -- ---- no class is its own negative
 
-pub moved_from : (p : List ℤ) (vs : List (List ℤ)) (x : List ℤ) → Contains (translate p vs) x → (w : List ℤ) × Contains vs w × (plus w p ≡ x)
-moved_from p [] x c = Contains-none x c
-moved_from p (v ∷ vs) x c =
-    elim (Contains-cases (plus v p) (translate p vs) x c) [
-      | inl e ↦ (v, Contains-head v vs, e)
-      | inr r ↦ (let f = moved_from p vs x r in (f.0, Contains-tail v vs f.0 f.1, f.2))
-    ]
-
-pub contains_get : (vs : List (List ℤ)) (i : ℕ) → i < length vs → Contains vs (get_or vs i [])
-contains_get [] i h = absurd (omega arith)
-contains_get (v ∷ vs) zero h = Contains-head v vs
-contains_get (v ∷ vs) (suc i) h = Contains-tail v vs (get_or vs i []) (contains_get vs i (omega arith))
-
 pub not_own_negative : (d : ℕ) (s : List (List ℤ)) → 2 ≤ d → IsClassOf d (negated s) s → ⊥
 not_own_negative d s h k = choose first.0 (first.1) (λ u. is u 0 first.0 first.2)
   where
@@ -312,7 +293,7 @@ not_own_negative d s h k = choose first.0 (first.1) (λ u. is u 0 first.0 first.
     -- v_a and v_b add up to less the shift
     opposite : (a : ℕ) → a < length s → (b : ℕ) × (b < length s) × (plus (get_or s b []) k.shift ≡ scale (negsuc 0) (get_or s a []))
     opposite a ha =
-        let m = moved_from k.shift s (scale (negsuc 0) (get_or s a [])) ((k.same (scale (negsuc 0) (get_or s a []))).0 (negated_has s (get_or s a []) (contains_get s a ha))) in
+        let m = from_translate k.shift s (scale (negsuc 0) (get_or s a [])) ((k.same (scale (negsuc 0) (get_or s a []))).0 (negated_has s (get_or s a []) (at_place s a ha))) in
         let i = index_of s m.0 m.1 in
         (i.0, i.1, ap (λ (v : List ℤ). plus v k.shift) i.2 ∙ m.2)
 

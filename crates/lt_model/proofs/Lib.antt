@@ -18,3 +18,5 @@ pub mod Differences
 pub mod Cramer
 pub mod Exchange
 pub mod Hadamard
+pub mod Points
+pub mod Atlases

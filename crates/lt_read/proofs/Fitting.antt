@@ -8,7 +8,7 @@ use Rattle.lt_grammar.specs.Ranges.{MarkFits, EntriesFit}
 use Rattle.lt_grammar.specs.Parsed.{mark_of, entries_of}
 use Rattle.lt_grammar.specs.declared.parsed.RawMark.{RawMark}
 use Rattle.lt_grammar.specs.declared.parsed.RawEntry.{RawEntry}
-use Rattle.lt_core.proofs.FewFacets.{facets_most}
+use Rattle.lt_model.proofs.Atlases.{facets_most}
 use Rattle.lt_read.specs.Refused.{entry_at, read_mark}
 use Rattle.lt_read.specs.Built.{spelt_marks, AreMarks, AreBuilt, kept_mark}
 use Rattle.lt_read.proofs.Counted.{fits_at, square_rows}
