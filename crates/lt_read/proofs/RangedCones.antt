@@ -7,7 +7,7 @@ use Rattle.std.proofs.lemmas.List.Elements.{recursion_from_All, All-head, All-ta
 use Rattle.lt_model.specs.Cones.{Verdict, wall, combination, Row, Cone, AreBelow, normals, coefficients, places, wall_or_none, sum_of_walls, IsRightVerdict, IsRightCone}
 use Rattle.lt_model.specs.Forms.{numbers_of_form}
 use Rattle.lt_model.specs.Padded.{lookup}
-use Rattle.lt_model.specs.Vectors.{plus, scale, IsPrimitive}
+use Rattle.lt_model.specs.Vectors.{plus, scale}
 use Rattle.lt_model.specs.Walls.{IsRegulator}
 use Rattle.lt_model.specs.Atlases.{Classes}
 use Rattle.lt_model.proofs.Squares.{length-scale}
@@ -18,6 +18,7 @@ use Rattle.lt_lp.proofs.WallSums.{small_at, long_sum, below_from}
 use Rattle.lt_tableau.proofs.Bounds.{normals_small}
 use Rattle.lt_tableau.proofs.Sums.{lookup_none, lookup_plus, lookup_scale}
 use Rattle.lt_scan.specs.Reading as scan
+use Rattle.lt_lp.proofs.ConeFacets.{none_not_primitive}
 use Rattle.lt_grammar.specs.Ranges.{TermFits, VerdictFits, RowFits, RowsFit, FormFits, ConeFits}
 
 -- ---- sums of walls
@@ -35,10 +36,6 @@ sum_most (r ∷ rows) h q = at r.verdict (λ w e. h 0 r w (omega arith) e) (sum_
       where
         sum : (x y z : ℤ) (n : ℕ) → nat_abs x < 2 ^ 62 → nat_abs y ≤ n * 2 ^ 62 → z ≡ x +ℤ y → nat_abs z ≤ suc n * 2 ^ 62
         sum x y z n h k e = omega (arith, ints, h, k, e)
-
--- an empty list isn't primitive
-none_primitive : (xs : List ℤ) → xs ≡ [] → IsPrimitive xs → ⊥
-none_primitive xs e p = let z = p 0 [] e in omega (arith, z)
 
 no_number_scaled : (c : ℤ) (xs : List ℤ) → scale c xs ≡ [] → xs ≡ []
 no_number_scaled c [] e = refl
@@ -104,7 +101,7 @@ module _ (d : ℕ) (t : Classes) (c : Cone) (low : 2 ≤ d) (high : d ≤ 6) (fo
   form_long =
       elim (long_sum n c.rows (λ k r w l e. (wall_below k r w l e).0)) [
         | inl e ↦ sym (length-scale (pos h.factor) c.form) ∙ ap length (sym h.sum) ∙ e
-        | inr e ↦ absurd (none_primitive c.form (no_number_scaled (pos h.factor) c.form (sym h.sum ∙ e)) h.primitive)
+        | inr e ↦ absurd (none_not_primitive c.form (no_number_scaled (pos h.factor) c.form (sym h.sum ∙ e)) h.primitive)
       ]
 
   form_fits : FormFits d c.form

@@ -3,5 +3,4 @@ pub mod EachEntry
 pub mod Lists
 pub mod Loops
 pub mod Spelt
-pub mod Squares
 pub mod AsSpelt
