@@ -1,5 +1,5 @@
 -- Each member of a Delaunay triangulation has one signature, and a matrix that carries keeps it.
-use Rattle.std.proofs.Common.{◌≡◌, ℕ, suc, ℤ, pos, negsuc, ◌*ℤ◌, ◌<ℤ◌, ◌<◌, refl, ap, arith, sym, ◌∙◌, subst, List, [], ◌∷◌, map, drop, get_or}
+use Rattle.std.proofs.Common.{◌≡◌, ℕ, suc, ℤ, pos, ◌*ℤ◌, ◌<◌, ap, arith, sym, ◌∙◌, subst, List, [], ◌∷◌, map, drop, get_or}
 use Rattle.std.proofs.lemmas.Int.{ints}
 use Rattle.std.proofs.lemmas.Cmp.{int_cmp_total}
 use Rattle.std.proofs.lemmas.List.{get_or_default, same_lists}
@@ -15,6 +15,7 @@ use Rattle.lt_model.specs.Triangulations.{IsDelaunay}
 use Rattle.lt_model.specs.Vectors.{scale, dot, IsPrimitive}
 use Rattle.lt_model.proofs.Sets.{number_list_cmp_total}
 use Rattle.lt_model.proofs.Vectors.{dot-scale}
+use Rattle.lt_model.proofs.Inequalities.{natural}
 use Rattle.lt_geometry.proofs.FirstLaws.{proportional}
 use Rattle.lt_geometry.proofs.Primitive.{same_primitive}
 use Rattle.lt_geometry.proofs.Sides.{unique_neighbour}
@@ -22,10 +23,6 @@ use Rattle.lt_geometry.proofs.Sorting.{number_list_cmp_exact}
 use Rattle.lt_colour.specs.Signatures.{IsInOrder, AreNumbersFrom, IsPairSignature, IsClassSignature, ArePairSignatures}
 use Rattle.lt_colour.proofs.Ordered.{one_order}
 use Rattle.lt_colour.proofs.Signed.{signature_carried}
-
-natural : (c : ℤ) → pos 0 <ℤ c → (m : ℕ) × (c ≡ pos m) × (0 < m)
-natural (pos m) h = (m, refl, omega (arith, ints))
-natural (negsuc m) h = absurd (omega (arith, ints))
 
 -- a point has one primitive expression
 pub one_primitive : (d : ℕ) (vs : List (List ℤ)) (x : List ℤ) (c c' : ℤ) (b b' : List ℤ) → IsSimplex d vs → IsExpression vs x c b → IsExpression vs x c' b' → IsPrimitive (c ∷ b) → IsPrimitive (c' ∷ b') → c ∷ b ≡ c' ∷ b'

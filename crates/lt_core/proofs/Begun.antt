@@ -1,12 +1,13 @@
 -- An atlas is the beginning of another exactly where its parts are.
-use Rattle.std.proofs.Common.{◌≡◌, ℕ, zero, suc, ◌+◌, ◌-◌, ◌<◌, refl, ap, arith, sym, ◌∙◌, subst, List, [], ◌∷◌, ◌++◌, length, get_or, take, drop, map, ◌↔◌, inl, inr, length-append}
+use Rattle.std.proofs.Common.{◌≡◌, ℕ, zero, suc, ◌+◌, ◌-◌, ◌<◌, refl, ap, arith, sym, ◌∙◌, subst, List, [], ◌∷◌, length, get_or, take, drop, map, ◌↔◌, inl, inr, length-append}
 use Rattle.std.proofs.lemmas.List.{take_at, take-map, length-map, length-take-le, get_or_default, same_lists}
 use Rattle.std.proofs.lemmas.List.Sums.{sum_by-cons}
 use Rattle.std.specs.Prelude.{sum}
 use Rattle.std.specs.List.{Contains}
+use Rattle.std.proofs.lemmas.List.Elements.{Contains-append_left, Contains-append_right}
 use Rattle.lt_model.specs.Atlases.{Mark, open_mark, cross, wide, heavy, no_mark, Atlas, mark_at, facets, places_from, undo_all, begin}
 use Rattle.lt_model.specs.RightAtlases.{place_if, open_in, open_places, all_places, IsQueue}
-use Rattle.lt_model.proofs.Sets.{Contains-head, Contains-tail, Contains-cases, Contains-none}
+use Rattle.lt_model.proofs.Sets.{Contains-head, Contains-tail}
 use Rattle.lt_core.specs.Beginnings.{fresh_events, first_entries, first_places, Stands, AllStand, IsStartOf}
 use Rattle.lt_core.proofs.Undo.{open_is_some, same_atlas, undo_all-dimension, length-places_from}
 use Rattle.lt_core.proofs.Starting.{in_rows}
@@ -14,26 +15,13 @@ use Rattle.lt_core.proofs.Undone.{lengths, no_length, all_log, all_entries, all_
 
 -- ---- each open mark has its place among the open ones
 
-module _ {A : Type 0} where
-  in_first : (xs ys : List A) (x : A) → Contains xs x → Contains (xs ++ ys) x
-  in_first [] ys x c = Contains-none x c
-  in_first (y ∷ xs) ys x c =
-      elim (Contains-cases y xs x c) [
-        | inl e ↦ subst (λ z. Contains (y ∷ xs ++ ys) z) e (Contains-head y (xs ++ ys))
-        | inr r ↦ Contains-tail y (xs ++ ys) x (in_first xs ys x r)
-      ]
-
-  in_second : (xs ys : List A) (x : A) → Contains ys x → Contains (xs ++ ys) x
-  in_second [] ys x c = c
-  in_second (y ∷ xs) ys x c = Contains-tail y (xs ++ ys) x (in_second xs ys x c)
-
-if_later : (m : Mark) (p : ℕ × ℕ) (ps : List (ℕ × ℕ)) (q : ℕ × ℕ) → Contains ps q → Contains (place_if m p ps) q
+pub if_later : (m : Mark) (p : ℕ × ℕ) (ps : List (ℕ × ℕ)) (q : ℕ × ℕ) → Contains ps q → Contains (place_if m p ps) q
 if_later open_mark p ps q c = Contains-tail p ps q c
 if_later (cross k u) p ps q c = c
 if_later (wide s n) p ps q c = c
 if_later (heavy n) p ps q c = c
 
-placed_in : (k f : ℕ) (ms : List Mark) (i : ℕ) → get_or ms i no_mark ≡ open_mark → Contains (open_in k f ms) (k, f + i)
+pub placed_in : (k f : ℕ) (ms : List Mark) (i : ℕ) → get_or ms i no_mark ≡ open_mark → Contains (open_in k f ms) (k, f + i)
 placed_in k f [] i h = absurd (open_is_some (sym h))
 placed_in k f (m ∷ ms) zero h =
     let e : f ≡ f + 0 = omega arith in
@@ -49,11 +37,11 @@ placed k [] j i h = absurd (open_is_some (sym h))
 placed k (ms ∷ mss) zero i h =
     let e : k ≡ k + 0 = omega arith in
     let z : 0 + i ≡ i = omega arith in
-    in_first (open_in k 0 ms) (open_places (suc k) mss) (k + 0, i)
+    Contains-append_left (open_in k 0 ms) (open_places (suc k) mss) (k + 0, i)
     (subst (λ x. Contains (open_in k 0 ms) (x, i)) e (subst (λ x. Contains (open_in k 0 ms) (k, x)) z (placed_in k 0 ms i h)))
 placed k (ms ∷ mss) (suc j) i h =
     let e : suc k + j ≡ k + suc j = omega arith in
-    in_second (open_in k 0 ms) (open_places (suc k) mss) (k + suc j, i)
+    Contains-append_right (open_in k 0 ms) (open_places (suc k) mss) (k + suc j, i)
     (subst (λ x. Contains (open_places (suc k) mss) (x, i)) e (placed (suc k) mss j i h))
 
 -- ---- marks with the same open places that stand in the same marks

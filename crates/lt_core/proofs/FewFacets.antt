@@ -1,22 +1,15 @@
 -- An entry has at most 2^29 rows, and no more facets: it is the Delaunay triangulation of some form, whose regulators are few.
-use Rattle.std.proofs.Common.{ℕ, ◌^◌, ◌<◌, ◌≤◌, arith, List, [], ◌∷◌, length, get_or}
+use Rattle.std.proofs.Common.{ℕ, ◌^◌, ◌<◌, ◌≤◌, arith, List, [], length, get_or}
 use Rattle.std.proofs.lemmas.List.{length-map}
-use Rattle.lt_model.specs.Cones.{Verdict, wall, combination, Row, Cone, IsRightCone, normals}
+use Rattle.lt_model.specs.Cones.{Row, Cone, IsRightCone, normals}
 use Rattle.lt_model.specs.Walls.{IsAcross}
-use Rattle.lt_model.specs.Atlases.{Classes, Mark, Entry, Atlas, entry_at, facets_of, facet_if}
+use Rattle.lt_model.specs.Atlases.{Classes, Mark, Entry, Atlas, entry_at}
 use Rattle.lt_model.specs.RightAtlases.{AreRight}
 use Rattle.lt_model.specs.Logs.{IsCandidate}
+use Rattle.lt_model.proofs.Atlases.{facets_most}
 use Rattle.lt_geometry.proofs.Fewness.{few_regulators}
 use Rattle.lt_core.proofs.Crossings.{HasForm, across_form, across_laws}
 use Rattle.lt_core.proofs.Reaching.{entry_form}
-
-pub facets_most : (rows : List Row) → length (facets_of rows) ≤ length rows
-facets_most [] = omega arith
-facets_most (r ∷ rows) = pick r.verdict (facets_most rows)
-  where
-    pick : (v : Verdict) → length (facets_of rows) ≤ length rows → length (facet_if v r.normal (facets_of rows)) ≤ length (r ∷ rows)
-    pick (wall w) h = omega (arith, h)
-    pick (combination f ts) h = omega (arith, h)
 
 pub few_rows : (d : ℕ) (t : Classes) (c : Cone) → 2 ≤ d → d ≤ 6 → HasForm d t → IsRightCone d t c → length c.rows ≤ 2 ^ 29
 few_rows d t c low high form h =

@@ -68,7 +68,7 @@ module _ (i : Inside) (k : IsSoundInside i) (p : ℕ) (x : ℕ × ℕ) (h : p < 
 undecided-set_mark : (mss : List (List model.Mark)) (p : ℕ × ℕ) (m : model.Mark) → model.mark_at mss p ≡ model.open_mark → one_if_open m ≡ 0 → suc (undecided (model.set_mark mss p m)) ≡ undecided mss
 undecided-set_mark mss p m h z = let e = count-set_mark one_if_open mss p m h in omega arith
 
-not_open_counts : (m : model.Mark) → (m ≡ model.open_mark → ⊥) → one_if_open m ≡ 0
+pub not_open_counts : (m : model.Mark) → (m ≡ model.open_mark → ⊥) → one_if_open m ≡ 0
 not_open_counts model.open_mark h = absurd (h refl)
 not_open_counts (model.cross k u) h = refl
 not_open_counts (model.wide s n) h = refl

@@ -30,6 +30,10 @@ side_of (suc (suc (suc (suc (suc zero))))) low high = refl
 side_of (suc (suc (suc (suc (suc (suc zero)))))) low high = refl
 side_of (suc (suc (suc (suc (suc (suc (suc d))))))) low high = absurd (omega arith)
 
+-- the rows of a square matrix, which its length tells
+pub square_rows : (d : ℕ) (u : List ℤ) → 2 ≤ d → d ≤ 6 → length u ≡ d * d → matrix_rows u ≡ rows d u
+square_rows d u low high long = ap (λ n. rows n u) (ap side long ∙ side_of d low high)
+
 pub flat-matrix_rows : (d : ℕ) (u : List ℤ) → 2 ≤ d → d ≤ 6 → length u ≡ d * d → flat (matrix_rows u) ≡ u
 flat-matrix_rows d u low high long = ap (λ n. flat (rows n u)) (ap side long ∙ side_of d low high) ∙ flat-rows d u long
 

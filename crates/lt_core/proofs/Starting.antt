@@ -1,40 +1,14 @@
 -- An atlas of right entries and marks with an empty log is right, and its log is legal.
-use Rattle.std.proofs.Common.{◌≡◌, ℕ, zero, suc, ℤ, ◌+◌, ◌<◌, refl, ap, arith, sym, ◌∙◌, subst, List, [], ◌∷◌, ◌++◌, length, get_or, drop, map, ◌⊎◌, inl, inr, length-append, append_assoc}
+use Rattle.std.proofs.Common.{◌≡◌, ℕ, suc, ℤ, ◌+◌, ◌<◌, refl, ap, arith, sym, ◌∙◌, List, [], ◌∷◌, ◌++◌, length, get_or, drop, map, ◌⊎◌, inl, inr, length-append, append_assoc}
 use Rattle.std.proofs.lemmas.List.{get_or_default, append-nil, length-map, drop_all}
 use Rattle.std.specs.List.{Contains}
+use Rattle.std.proofs.lemmas.List.Elements.{Contains-append_cases}
 use Rattle.lt_model.specs.Atlases.{Classes, Mark, open_mark, cross, wide, heavy, no_mark, Entry, mark_at, place_at, one_if_open, count_in, undecided}
 use Rattle.lt_model.specs.RightAtlases.{AreRight, place_if, open_in, open_places, all_places, fresh_atlas}
 use Rattle.lt_model.specs.Logs.{IsKept}
-use Rattle.lt_model.proofs.Sets.{Contains-head, Contains-tail, Contains-cases, Contains-none}
+use Rattle.lt_model.proofs.Sets.{Contains-cases, Contains-none}
+use Rattle.lt_geometry.proofs.Rearranged.{IsDistinct, same_place, distinct_append}
 use Rattle.lt_core.proofs.Undo.{open_within}
-
-module _ {A : Type 0} where
-  -- no member stands twice
-  abbrev pub IsOnce : List A → Type 0
-  IsOnce [] = Unit {0}
-  IsOnce (x ∷ xs) = (Contains xs x → ⊥) × IsOnce xs
-
-  pub append_cases : (xs ys : List A) (x : A) → Contains (xs ++ ys) x → Contains xs x ⊎ Contains ys x
-  append_cases [] ys x c = inr c
-  append_cases (y ∷ xs) ys x c =
-      elim (Contains-cases y (xs ++ ys) x c) [
-        | inl e ↦ inl (subst (λ z. Contains (y ∷ xs) z) e (Contains-head y xs))
-        | inr r ↦ elim (append_cases xs ys x r) [ inl l ↦ inl (Contains-tail y xs x l) | inr l ↦ inr l ]
-      ]
-
-  pub once_append : (xs ys : List A) → IsOnce xs → IsOnce ys → ((x : A) → Contains xs x → Contains ys x → ⊥) → IsOnce (xs ++ ys)
-  once_append [] ys h k apart = k
-  once_append (x ∷ xs) ys h k apart = (
-    λ c. elim (append_cases xs ys x c) [ inl l ↦ h.0 l | inr r ↦ apart x (Contains-head x xs) r ],
-    once_append xs ys h.1 k (λ y l r. apart y (Contains-tail x xs y l) r),
-  )
-
-  pub once_at : (xs : List A) (i j : ℕ) (d : A) → IsOnce xs → i < length xs → j < length xs → get_or xs i d ≡ get_or xs j d → i ≡ j
-  once_at [] i j d h hi hj e = absurd (omega arith)
-  once_at (x ∷ xs) zero zero d h hi hj e = refl
-  once_at (x ∷ xs) zero (suc j) d h hi hj e = absurd (h.0 (j, omega arith, get_or_default xs j x d (omega arith) ∙ sym e))
-  once_at (x ∷ xs) (suc i) zero d h hi hj e = absurd (h.0 (i, omega arith, get_or_default xs i x d (omega arith) ∙ e))
-  once_at (x ∷ xs) (suc i) (suc j) d h hi hj e = ap suc (once_at xs i j d h.1 (omega arith) (omega arith) e)
 
 -- ---- the open places
 
@@ -44,7 +18,7 @@ if_cases (cross k u) p ps q c = inr c
 if_cases (wide s n) p ps q c = inr c
 if_cases (heavy n) p ps q c = inr c
 
-if_once : (m : Mark) (p : ℕ × ℕ) (ps : List (ℕ × ℕ)) → (Contains ps p → ⊥) → IsOnce ps → IsOnce (place_if m p ps)
+if_once : (m : Mark) (p : ℕ × ℕ) (ps : List (ℕ × ℕ)) → (Contains ps p → ⊥) → IsDistinct ps → IsDistinct (place_if m p ps)
 if_once open_mark p ps n h = (n, h)
 if_once (cross k u) p ps n h = h
 if_once (wide s w) p ps n h = h
@@ -69,7 +43,7 @@ in_row k f (m ∷ ms) p c = by_cases (if_cases m (k, f) (open_in k (suc f) ms) p
         let b : p.1 ≡ suc f + h.0 = h.1.facet in
         (suc h.0, record { entry = h.1.entry; facet = omega arith; is_open = h.1.is_open })
 
-row_once : (k f : ℕ) (ms : List Mark) → IsOnce (open_in k f ms)
+row_once : (k f : ℕ) (ms : List Mark) → IsDistinct (open_in k f ms)
 row_once k f [] = tt
 row_once k f (m ∷ ms) =
     if_once m (k, f) (open_in k (suc f) ms) (λ c. let h = in_row k (suc f) ms (k, f) c in let b : f ≡ suc f + h.0 = h.1.facet in absurd (omega arith)) (row_once k (suc f) ms)
@@ -80,7 +54,7 @@ pub record IsInRows (k : ℕ) (mss : List (List Mark)) (p : ℕ × ℕ) (i : ℕ
 
 pub in_rows : (k : ℕ) (mss : List (List Mark)) (p : ℕ × ℕ) → Contains (open_places k mss) p → (i : ℕ) × IsInRows k mss p i
 in_rows k [] p c = Contains-none p c
-in_rows k (ms ∷ mss) p c = by_cases (append_cases (open_in k 0 ms) (open_places (suc k) mss) p c) (λ r. in_rows (suc k) mss p r)
+in_rows k (ms ∷ mss) p c = by_cases (Contains-append_cases (open_in k 0 ms) (open_places (suc k) mss) p c) (λ r. in_rows (suc k) mss p r)
   where
     by_cases : (Contains (open_in k 0 ms) p ⊎ Contains (open_places (suc k) mss) p) → (Contains (open_places (suc k) mss) p → (i : ℕ) × IsInRows (suc k) mss p i) → (i : ℕ) × IsInRows k (ms ∷ mss) p i
     by_cases (inl l) rec =
@@ -94,10 +68,10 @@ in_rows k (ms ∷ mss) p c = by_cases (append_cases (open_in k 0 ms) (open_place
         let a : p.0 ≡ suc k + h.0 = h.1.entry in
         (suc h.0, record { entry = omega arith; is_open = h.1.is_open })
 
-rows_once : (k : ℕ) (mss : List (List Mark)) → IsOnce (open_places k mss)
+rows_once : (k : ℕ) (mss : List (List Mark)) → IsDistinct (open_places k mss)
 rows_once k [] = tt
 rows_once k (ms ∷ mss) =
-    once_append (open_in k 0 ms) (open_places (suc k) mss) (row_once k 0 ms) (rows_once (suc k) mss)
+    distinct_append (open_in k 0 ms) (open_places (suc k) mss) (row_once k 0 ms) (rows_once (suc k) mss)
     (λ p l r. let a : p.0 ≡ k = (in_row k 0 ms p l).1.entry in let h = in_rows (suc k) mss p r in let b : p.0 ≡ suc k + h.0 = h.1.entry in absurd (omega arith))
 
 -- each place of the queue has an open mark
@@ -125,7 +99,7 @@ kept_fresh Beyond d es ms h =
         rest = λ p l n. queue_open ms p l;
       };
       orderly = record {
-        once = λ p q hp hq e. once_at (open_places 0 ms) p q (0, 0) (rows_once 0 ms) hp hq e;
+        once = λ p q hp hq e. same_place (open_places 0 ms) p q (0, 0) (rows_once 0 ms) hp hq e;
         entry_within = λ p l. (open_within ms (place_at (open_places 0 ms) p) (queue_open ms p l)).0;
         facet_within = λ p l. (open_within ms (place_at (open_places 0 ms) p) (queue_open ms p l)).1;
       };

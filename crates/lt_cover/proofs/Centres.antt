@@ -6,37 +6,34 @@ use Rattle.std.proofs.lemmas.List.{get_or_default}
 use Rattle.lt_model.proofs.Integers.{mul_zero_z, zero_mul_z}
 use Rattle.lt_model.proofs.Ring.{ring, ring_by_two, var, num, ◌⊗◌}
 use Rattle.lt_model.proofs.Inequalities.{cancel_z}
-use Rattle.lt_model.proofs.Vectors.{dot_comm}
-use Rattle.lt_model.proofs.Excess.{gradient, map-same}
+use Rattle.lt_model.proofs.Excess.{map-same}
 use Rattle.lt_model.proofs.Walk.{length-combine, number_at-map, number_at-scale}
-use Rattle.lt_model.proofs.Opposite.{zeros-dot, length-zeros}
 use Rattle.lt_model.proofs.Expressions.{number_at-zeros}
 use Rattle.lt_model.proofs.Differences.{differences_from_independent}
-use Rattle.lt_model.proofs.Sets.{Contains-head, Contains-tail, Contains-cases}
+use Rattle.lt_model.proofs.Sets.{Contains-cases}
 use Rattle.lt_model.specs.Vectors.{minus, scale, dot, combine, zeros, AreLinearlyIndependent}
 use Rattle.lt_model.specs.Forms.{value, polar}
 use Rattle.lt_model.specs.Simplices.{AllOfDimension, IsClass}
 use Rattle.lt_model.specs.Facets.{number_at}
+use Rattle.lt_model.proofs.Points.{scale-one, count_rest}
 use Rattle.lt_geometry.proofs.Fewness.{scale-zeros}
 use Rattle.lt_geometry.proofs.Parity.{value-zeros}
 use Rattle.lt_geometry.proofs.Points.{polar_comm}
 use Rattle.lt_geometry.proofs.Values.{list_dec}
-use Rattle.lt_geometry.proofs.WalkEnds.{scale-one}
 use Rattle.lt_num.specs.Fractions.{Ratio, IsQuotient}
+use Rattle.lt_geometry.proofs.Candidates.{map_same_members}
+use Rattle.lt_geometry.proofs.Motions.{length_of_member}
+use Rattle.lt_geometry.proofs.Neighbours.{polar-zeros}
 use Rattle.lt_solve.specs.Forms.{row_of}
 use Rattle.lt_solve.specs.Systems.{IsSolution, IsColumnDependency}
 use Rattle.lt_solve.proofs.Solved.{row_combine}
 use Rattle.lt_triang.proofs.Columned.{columns-class}
-use Rattle.lt_laws.proofs.Circumradii.{polar_sum, pulled, distance, vertex_dimension}
+use Rattle.lt_laws.proofs.Circumradii.{polar_sum, pulled, distance}
 use Rattle.lt_laws.proofs.Halves.{twice_value}
 use Rattle.lt_cover.specs.Gram.{gram, IsMeasured}
 use Rattle.lt_cover.specs.Covers.{IsRadius}
 
 -- ---- sums over points
-
-map_same : (f g : List ℤ → ℤ) (vs : List (List ℤ)) → ((v : List ℤ) → Contains vs v → f v ≡ g v) → map f vs ≡ map g vs
-map_same f g [] h = refl
-map_same f g (v ∷ vs) h = ap₂ (λ (x : ℤ) (l : List ℤ). x ∷ l) (h v (Contains-head v vs)) (map_same f g vs (λ w c. h w (Contains-tail v vs w c)))
 
 pub length-gram : (q : List ℤ) (ws vs : List (List ℤ)) → length (map (λ w. map (λ v. polar q v w) vs) ws) ≡ length ws
 length-gram q [] vs = refl
@@ -45,9 +42,6 @@ length-gram q (w ∷ ws) vs = ap suc (length-gram q ws vs)
 row_of-gram : (q : List ℤ) (ws vs : List (List ℤ)) (i : ℕ) → i < length vs → row_of (map (λ w. map (λ v. polar q v w) vs) ws) i ≡ map (λ w. polar q (get_or vs i []) w) ws
 row_of-gram q [] vs i h = refl
 row_of-gram q (w ∷ ws) vs i h = ap₂ (λ (x : ℤ) (l : List ℤ). x ∷ l) (number_at-map (λ v. polar q v w) i vs [] h) (row_of-gram q ws vs i h)
-
-at_zeros : (d : ℕ) (q p : List ℤ) → length p ≡ d → polar q (zeros d) p ≡ pos 0
-at_zeros d q p lp = let g = gradient q p in g.1 (zeros d) (length-zeros d ∙ sym lp) ∙ dot_comm g.0 (zeros d) ∙ zeros-dot d g.0
 
 module _ (d : ℕ) (q : List ℤ) (vs : List (List ℤ)) (nums : List ℤ) (all : AllOfDimension d vs) (some : 0 < length vs) (one_each : length nums ≡ length vs) where
   abbrev point : List ℤ
@@ -75,7 +69,7 @@ module _ (d : ℕ) (q : List ℤ) (vs : List (List ℤ)) (nums : List ℤ) (all 
       let e1 = twice_value d q point length-point in
       let e2 = polar_sum d q vs point point nums (pos 1) all length-point length-point own in
       let e3 : pos 1 *ℤ polar q point point ≡ polar q point point = ring (polar q point point ∷ []) (num (pos 1) ⊗ var 0) (var 0) tt in
-      let e4 : dot nums (map (λ v. polar q v point) vs) ≡ dot nums (map (λ v. k *ℤ value q v) vs) = ap (dot nums) (map_same (λ v. polar q v point) (λ v. k *ℤ value q v) vs h) in
+      let e4 : dot nums (map (λ v. polar q v point) vs) ≡ dot nums (map (λ v. k *ℤ value q v) vs) = ap (dot nums) (map_same_members (λ v. polar q v point) (λ v. k *ℤ value q v) vs h) in
       sym e1 ∙ sym e3 ∙ sym e2 ∙ e4 ∙ pulled k (value q) nums vs
 
 -- ---- the class
@@ -83,10 +77,6 @@ module _ (d : ℕ) (q : List ℤ) (vs : List (List ℤ)) (nums : List ℤ) (all 
 rest_all : (d : ℕ) (s : List (List ℤ)) → AllOfDimension d s → AllOfDimension d (drop 1 s)
 rest_all d [] all = tt
 rest_all d (v ∷ vs) all = all.1
-
-pub count_rest : (d : ℕ) (s : List (List ℤ)) → length s ≡ suc d → length (drop 1 s) ≡ d
-count_rest d [] h = absurd (omega arith)
-count_rest d (v ∷ vs) h = omega arith
 
 first_or_rest : (d : ℕ) (s : List (List ℤ)) (P : List ℤ → Type 0) → IsClass d s → P (zeros d) → ((v : List ℤ) → Contains (drop 1 s) v → P v) → (v : List ℤ) → Contains s v → P v
 first_or_rest d [] P k z h v (i, l, e) = absurd (omega arith)
@@ -140,20 +130,20 @@ module _ (d : ℕ) (q : List ℤ) (s : List (List ℤ)) (h : IsMeasured d q s) w
       at : (v : List ℤ) → Contains vs v → polar q v (combine nums vs) ≡ den *ℤ value q v
       at v (i, l, e) =
           let here : get_or vs i [] ≡ v = get_or_default vs i [] v l ∙ e in
-          let lv : length (get_or vs i []) ≡ d = ap length here ∙ vertex_dimension d vs v all (i, l, e) in
+          let lv : length (get_or vs i []) ≡ d = ap length here ∙ length_of_member d vs v all (i, l, e) in
           let f : polar q (get_or vs i []) (combine nums vs) ≡ den *ℤ value q (get_or vs i []) =
           at_vertex d q vs nums all some one_each i l lv ∙ ap (number_at i) sol.sum ∙ number_at-scale i den (map (value q) vs) ∙ ap (λ (x : ℤ). den *ℤ x) (number_at-map (value q) i vs [] l) in
           subst (λ (u : List ℤ). polar q u (combine nums vs) ≡ den *ℤ value q u) here f
 
       first : polar q (zeros d) (combine nums vs) ≡ den *ℤ value q (zeros d)
-      first = at_zeros d q (combine nums vs) lp ∙ sym (ap (λ (x : ℤ). den *ℤ x) (value-zeros d q) ∙ mul_zero_z den)
+      first = polar-zeros d q (combine nums vs) lp ∙ sym (ap (λ (x : ℤ). den *ℤ x) (value-zeros d q) ∙ mul_zero_z den)
 
       twice : pos 2 *ℤ value q (combine nums vs) ≡ den *ℤ dot nums (map (value q) vs)
       twice = twice_point d q vs nums all some one_each den at
 
       through : (v : List ℤ) → Contains s v → r.den *ℤ value q (minus (scale den v) (combine nums vs)) ≡ r.num *ℤ (den *ℤ den)
       through v c =
-          let lv : length v ≡ d = vertex_dimension d s v h.class.simplex.points c in
+          let lv : length v ≡ d = length_of_member d s v h.class.simplex.points c in
           let y : polar q v (combine nums vs) ≡ den *ℤ value q v = first_or_rest d s (λ u. polar q u (combine nums vs) ≡ den *ℤ value q u) h.class first at v c in
           let z = same_distance r.den (value q v) (value q (combine nums vs)) den (polar q v (combine nums vs)) (value q (minus (scale den v) (combine nums vs))) (distance d q den v (combine nums vs) lv lp) y in
           ap (λ (x : ℤ). r.den *ℤ x) z ∙ same_radius r.den (value q (combine nums vs)) r.num den (dot nums (map (value q) vs)) twice quo.same
@@ -173,7 +163,7 @@ module _ (d : ℕ) (q : List ℤ) (s : List (List ℤ)) (h : IsMeasured d q s) w
       at : (v : List ℤ) → Contains vs v → polar q v (combine terms vs) ≡ pos 0 *ℤ value q v
       at v (i, l, e) =
           let here : get_or vs i [] ≡ v = get_or_default vs i [] v l ∙ e in
-          let lv : length (get_or vs i []) ≡ d = ap length here ∙ vertex_dimension d vs v all (i, l, e) in
+          let lv : length (get_or vs i []) ≡ d = ap length here ∙ length_of_member d vs v all (i, l, e) in
           let f : polar q (get_or vs i []) (combine terms vs) ≡ pos 0 = at_vertex d q vs terms all some one_each i l lv ∙ ap (number_at i) dep.sum ∙ number_at-zeros (length (gram q vs)) i in
           subst (λ (u : List ℤ). polar q u (combine terms vs) ≡ pos 0) here f ∙ sym (zero_mul_z (value q v))
 

@@ -1,19 +1,12 @@
 -- Lists that are made member by member from the rest of a list.
 use Rattle.std.proofs.Common.{◌≡◌, ℕ, suc, ℤ, ◌+◌, ◌-◌, ◌*◌, ◌<◌, ◌≤◌, refl, ap, arith, sym, ◌∙◌, List, [], ◌∷◌, ◌++◌, length, map, drop, get_or, append_assoc, add-one, drop-cons, mul-le-mul}
-use Rattle.std.proofs.lemmas.List.{append-nil, drop_all, length-append, length-drop, length-map}
+use Rattle.std.proofs.lemmas.List.{length-append, length-drop, length-map}
 use Rattle.lt_model.specs.Flat.{flat}
 
 next : (s : List (List ℤ)) (i : ℕ) → i < length s → drop i s ≡ get_or s i [] ∷ drop (i + 1) s
 next s i h = rw (add-one i, drop-cons s i []) refl
 
 module _ (f : List ℤ → ℤ) (s : List (List ℤ)) where
-  pub pushed : (i : ℕ) (all goal : List ℤ) (x : ℤ) → i < length s → x ≡ f (get_or s i []) → all ++ map f (drop i s) ≡ goal → (all ++ x ∷ []) ++ map f (drop (i + 1) s) ≡ goal
-  pushed i all goal x h e g =
-      append_assoc all (x ∷ []) (map f (drop (i + 1) s)) ∙ ap (λ (l : List ℤ). all ++ l) (ap (λ (y : ℤ). y ∷ map f (drop (i + 1) s)) e ∙ sym (ap (map f) (next s i h))) ∙ g
-
-  pub finished : (i : ℕ) (all goal : List ℤ) → length s ≤ i → all ++ map f (drop i s) ≡ goal → all ≡ goal
-  finished i all goal h g = sym (append-nil all) ∙ ap (λ (l : List (List ℤ)). all ++ map f l) (sym (drop_all i s h)) ∙ g
-
   -- how many numbers there are
   counted : (i : ℕ) (all goal : List ℤ) → all ++ map f (drop i s) ≡ goal → length all + (length s - i) ≡ length goal
   counted i all goal g = ap (λ (n : ℕ). length all + n) (sym (length-map (drop i s) f ∙ length-drop i s)) ∙ sym (length-append all (map f (drop i s))) ∙ ap length g
@@ -37,9 +30,6 @@ module _ (f : List ℤ → List ℤ) (s : List (List ℤ)) where
       ∙ append_assoc all (f (get_or s i [])) (flat (map f (drop (i + 1) s)))
       ∙ ap (λ (l : List ℤ). all ++ l) (sym (ap (λ (l : List (List ℤ)). flat (map f l)) (next s i h)))
       ∙ g
-
-  pub columns_finished : (i : ℕ) (all goal : List ℤ) → length s ≤ i → all ++ flat (map f (drop i s)) ≡ goal → all ≡ goal
-  columns_finished i all goal h g = sym (append-nil all) ∙ ap (λ (l : List (List ℤ)). all ++ flat (map f l)) (sym (drop_all i s h)) ∙ g
 
   length_columns : (d : ℕ) → ((w : List ℤ) → length (f w) ≡ d) → (ws : List (List ℤ)) → length (flat (map f ws)) ≡ length ws * d
   length_columns d h [] = omega arith

@@ -1,5 +1,5 @@
 -- The members of a Delaunay triangulation with short edges, and how large the products of their vertices are.
-use Rattle.std.proofs.Common.{◌≡◌, ℕ, ℤ, pos, ◌+ℤ◌, ◌-ℤ◌, ◌≤ℤ◌, ◌≤◌, ◌<◌, ◌*◌, ◌^◌, refl, ap, arith, sym, ◌∙◌, subst, List, [], length, get_or, nat_abs, Bool, true, false, cond, nat_le}
+use Rattle.std.proofs.Common.{◌≡◌, ℕ, ℤ, pos, ◌+ℤ◌, ◌-ℤ◌, ◌≤ℤ◌, ◌≤◌, ◌<◌, ◌*◌, ◌^◌, refl, ap, arith, sym, ◌∙◌, subst, List, [], length, get_or, nat_abs}
 use Rattle.std.proofs.lemmas.Int.{ints}
 use Rattle.std.specs.List.{All, Contains}
 use Rattle.std.specs.declared.cmp.Ordering.{Ordering}
@@ -14,18 +14,17 @@ use Rattle.lt_model.specs.Forms.{value, polar, IsPositiveDefinite}
 use Rattle.lt_model.specs.Limits.{span_limit}
 use Rattle.lt_model.specs.Simplices.{IsClass}
 use Rattle.lt_model.specs.Triangulations.{IsDelaunay}
-use Rattle.lt_geometry.proofs.Motions.{minus_itself}
+use Rattle.lt_model.proofs.Points.{minus_itself}
+use Rattle.lt_geometry.proofs.Motions.{length_of_member}
 use Rattle.lt_geometry.proofs.Parity.{value-zeros}
 use Rattle.lt_geometry.proofs.Points.{polar_comm}
-use Rattle.lt_geometry.proofs.Values.{list_dec}
+use Rattle.lt_geometry.proofs.Values.{value_not_negative}
 use Rattle.lt_lattice.specs.Ranges.{IsWithin}
 use Rattle.lt_triang.specs.Bounds.{AreNear}
-use Rattle.lt_triang.proofs.Gaps.{minus-zeros, twice_limit}
+use Rattle.lt_triang.proofs.Gaps.{minus-zeros, small_limit}
 use Rattle.lt_triang.proofs.Tied.{equal_points}
 use Rattle.lt_laws.specs.Edges.{IsEdge}
-use Rattle.lt_laws.proofs.Circumradii.{vertex_dimension}
 use Rattle.lt_laws.proofs.Halves.{length-minus}
-use Rattle.lt_triang.proofs.Shifts.{within_more}
 use Rattle.lt_locate.proofs.Places.{difference_above}
 use Rattle.lt_cover.specs.Gram.{IsMeasured}
 use Rattle.lt_cover.specs.Covers.{AreShort}
@@ -44,10 +43,10 @@ module _ (d : ℕ) (q : List ℤ) (t : List (List (List ℤ))) (short : AreShort
   differences_short s k m x y cx cy low none = go (number_list_cmp y x) refl
     where
       lx : length x ≡ d
-      lx = vertex_dimension d s x k.simplex.points cx
+      lx = length_of_member d s x k.simplex.points cx
 
       ly : length y ≡ d
-      ly = vertex_dimension d s y k.simplex.points cy
+      ly = length_of_member d s y k.simplex.points cy
 
       edge : (from to : List ℤ) → Contains s from → Contains s to → length from ≡ d → length to ≡ d → number_list_cmp from to ≡ Less → IsEdge d t (minus to from)
       edge from to cf ct lf lt e = record { owner = s; member = m; from = from; to = to; has_from = cf; has_to = ct; difference = refl; positive = difference_above d from to lf lt ∙ e }
@@ -60,14 +59,6 @@ module _ (d : ℕ) (q : List ℤ) (t : List (List (List ℤ))) (short : AreShort
           let b = short (minus y x) (edge x y cx cy lx ly f) in
           let w = both_ways d q x y lx ly in
           omega (arith, ints, b, w)
-
--- a positive definite form is nowhere negative
-pub nonneg : (d : ℕ) (q x : List ℤ) → IsPositiveDefinite d q → length x ≡ d → pos 0 ≤ℤ value q x
-nonneg d q x h l = go (list_dec x (zeros d))
-  where
-    go : Dec (x ≡ zeros d) → pos 0 ≤ℤ value q x
-    go (yes e) = let z : value q x ≡ pos 0 = ap (value q) e ∙ value-zeros d q in omega (arith, ints, z)
-    go (no n) = let p = h.positive x l n in omega (arith, ints, p)
 
 -- the difference of a point and itself
 pub none_there : (d : ℕ) (q x y : List ℤ) → IsPositiveDefinite d q → length x ≡ d → length y ≡ d → x ≡ y → value q (minus x y) ≡ pos 0
@@ -88,36 +79,26 @@ measured d q t s low high k short within m near =
       positive = k.positive;
       within = within;
       short = λ x y cx cy. (
-          let lx = vertex_dimension d s x c.simplex.points cx in
-          let ly = vertex_dimension d s y c.simplex.points cy in
-          differences_short d q t short s c m x y cx cy (nonneg d q (minus x y) k.positive (length-minus d x y lx ly)) (λ e. none_there d q x y k.positive lx ly e)
+          let lx = length_of_member d s x c.simplex.points cx in
+          let ly = length_of_member d s y c.simplex.points cy in
+          differences_short d q t short s c m x y cx cy (value_not_negative d q (minus x y) k.positive (length-minus d x y lx ly)) (λ e. none_there d q x y k.positive lx ly e)
           );
     }
-
-limit_small : (d : ℕ) → span_limit d ≤ 400
-limit_small d = go (nat_le d 5)
-  where
-    go : (b : Bool) → cond b 400 100 ≤ 400
-    go true = omega arith
-    go false = omega arith
 
 -- ---- differences and products of vertices
 
 module _ (d : ℕ) (q : List ℤ) (s : List (List ℤ)) (h : IsMeasured d q s) where
   pub length_at : (i : ℕ) → i < length s → length (get_or s i []) ≡ d
-  length_at i l = vertex_dimension d s (get_or s i []) h.class.simplex.points (Contains-get_or s i [] l)
-
-  pub near_at : (i j : ℕ) → i < length s → j < length s → All (IsWithin (2 ^ 20)) (minus (get_or s i []) (get_or s j []))
-  near_at i j li lj = within_more (2 * span_limit d) (2 ^ 20) (minus (get_or s i []) (get_or s j [])) (let t = twice_limit d in omega (arith, t)) (h.near (get_or s i []) (get_or s j []) (Contains-get_or s i [] li) (Contains-get_or s j [] lj))
+  length_at i l = length_of_member d s (get_or s i []) h.class.simplex.points (Contains-get_or s i [] l)
 
   pub low_at : (i j : ℕ) → i < length s → j < length s → pos 0 ≤ℤ value q (minus (get_or s i []) (get_or s j []))
-  low_at i j li lj = nonneg d q (minus (get_or s i []) (get_or s j [])) h.positive (length-minus d (get_or s i []) (get_or s j []) (length_at i li) (length_at j lj))
+  low_at i j li lj = value_not_negative d q (minus (get_or s i []) (get_or s j [])) h.positive (length-minus d (get_or s i []) (get_or s j []) (length_at i li) (length_at j lj))
 
   pub short_at : (i j : ℕ) → i < length s → j < length s → value q (minus (get_or s i []) (get_or s j [])) ≤ℤ pos (span_limit d)
   short_at i j li lj = h.short (get_or s i []) (get_or s j []) (Contains-get_or s i [] li) (Contains-get_or s j [] lj)
 
   pub high_at : (i j : ℕ) → i < length s → j < length s → value q (minus (get_or s i []) (get_or s j [])) ≤ℤ pos 400
-  high_at i j li lj = let a = short_at i j li lj in let b = limit_small d in omega (arith, ints, a, b)
+  high_at i j li lj = let a = short_at i j li lj in let b = small_limit d in omega (arith, ints, a, b)
 
   pub some_vertex : 0 < length s
   some_vertex = let c = h.class.simplex.count in omega (arith, c)

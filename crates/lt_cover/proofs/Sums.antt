@@ -1,10 +1,9 @@
 -- Sums of products, made place by place.
-use Rattle.std.proofs.Common.{◌≡◌, ℕ, ℤ, pos, ◌+ℤ◌, ◌-ℤ◌, ◌*ℤ◌, ◌≤ℤ◌, ◌+◌, ◌*◌, ◌^◌, ◌<◌, ◌≤◌, refl, arith, List, length, drop, get_or, nat_abs}
+use Rattle.std.proofs.Common.{◌≡◌, ℕ, ℤ, pos, ◌+ℤ◌, ◌-ℤ◌, ◌*ℤ◌, ◌≤ℤ◌, ◌+◌, ◌*◌, ◌^◌, ◌<◌, ◌≤◌, arith, List, length, drop, get_or, nat_abs}
 use Rattle.std.specs.Prelude.{FitsSigned}
 use Rattle.std.proofs.lemmas.Int.{ints, to_z-of_z}
 use mir.Val.{SFits, to_z, of_z}
 use mir.Syntax.{w128, w64}
-use Rattle.std.proofs.lemmas.List.{drop_all}
 use Rattle.lt_model.specs.Vectors.{dot}
 use Rattle.lt_lattice.proofs.Dots.{inner_step, product_within}
 
@@ -13,21 +12,12 @@ pub record IsSummed (xs ys : List ℤ) (i : ℕ) (sum : ℤ) : Type 0 where
   pub so_far : sum +ℤ dot (drop i xs) (drop i ys) ≡ dot xs ys
   pub small : nat_abs sum ≤ i * (2 ^ 56 * 400)
 
-pub none_summed : (xs ys : List ℤ) → IsSummed xs ys 0 (pos 0)
-none_summed xs ys = record { so_far = omega (arith, ints); small = omega arith }
-
 pub summed_more : (xs ys : List ℤ) (i : ℕ) (sum x y new : ℤ) → IsSummed xs ys i sum → i < length xs → i < length ys → x ≡ get_or xs i (pos 0) → y ≡ get_or ys i (pos 0) → nat_abs x ≤ 2 ^ 56 → nat_abs y ≤ 400 → new ≡ sum +ℤ x *ℤ y → IsSummed xs ys (i + 1) new
 summed_more xs ys i sum x y new h hx hy ex ey bx by e =
     let t : new ≡ sum +ℤ get_or xs i (pos 0) *ℤ get_or ys i (pos 0) = rw (← ex, ← ey) e in
     let l = h.small in
     let b = product_within x y (2 ^ 56) 400 bx by in
     record { so_far = inner_step xs ys i sum new hx hy t h.so_far; small = omega (arith, ints, e, l, b) }
-
-pub summed_whole : (xs ys : List ℤ) (i : ℕ) (sum : ℤ) → IsSummed xs ys i sum → length xs ≤ i → sum ≡ dot xs ys
-summed_whole xs ys i sum h l =
-    let e : dot (drop i xs) (drop i ys) ≡ pos 0 = rw (drop_all i xs l) refl in
-    let s = h.so_far in
-    omega (arith, ints, e, s)
 
 pub product_fits : (x y : ℤ) → nat_abs x ≤ 2 ^ 56 → nat_abs y ≤ 400 → FitsSigned w128 (x *ℤ y)
 product_fits x y bx by = let b = product_within x y (2 ^ 56) 400 bx by in omega (arith, ints, b)

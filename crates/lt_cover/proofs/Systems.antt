@@ -1,5 +1,5 @@
 -- The system of a class: its columns, how many numbers they have, and how large these are.
-use Rattle.std.proofs.Common.{◌≡◌, ℕ, zero, suc, ℤ, pos, ◌≤ℤ◌, ◌<◌, ◌*◌, refl, ap, arith, ◌∙◌, subst, List, [], ◌∷◌, length, map, drop, take, get_or}
+use Rattle.std.proofs.Common.{◌≡◌, ℕ, ℤ, pos, ◌≤ℤ◌, ◌<◌, ◌*◌, ap, arith, ◌∙◌, subst, List, [], ◌∷◌, length, map, drop, get_or}
 use Rattle.std.proofs.lemmas.Int.{ints}
 use Rattle.std.specs.List.{All, AllByRecursion, Contains}
 use Rattle.std.proofs.lemmas.List.{get_or_default}
@@ -7,16 +7,17 @@ use Rattle.std.proofs.lemmas.List.Elements.{All-nil, All-cons}
 use Rattle.lt_model.proofs.Flat.{rows-flat, length-flat}
 use Rattle.lt_model.proofs.Walk.{length-map}
 use Rattle.lt_model.proofs.Sets.{Contains-head, Contains-tail}
-use Rattle.lt_model.specs.Flat.{flat, first_rows}
+use Rattle.lt_model.specs.Flat.{flat}
 use Rattle.lt_model.specs.Forms.{value, polar}
 use Rattle.lt_model.specs.Limits.{span_limit}
 use Rattle.lt_model.specs.Matrices.{IsSquare}
 use Rattle.lt_model.specs.Simplices.{AllOfDimension}
+use Rattle.lt_model.proofs.Points.{count_rest}
 use Rattle.lt_lattice.specs.Ranges.{IsWithin}
 use Rattle.lt_solve.specs.Systems.{chunks, IsSmall}
-use Rattle.lt_triang.proofs.Columned.{All-flat}
+use Rattle.lt_triang.proofs.Columned.{All-flat, chunks_are}
 use Rattle.lt_cover.specs.Gram.{gram, IsMeasured}
-use Rattle.lt_cover.proofs.Centres.{length-gram, count_rest}
+use Rattle.lt_cover.proofs.Centres.{length-gram}
 use Rattle.lt_cover.proofs.Measures.{from_first, low_at, short_at, high_at, some_vertex, product_small}
 
 all_mapped : (P : ℤ → Type 0) (f : List ℤ → ℤ) (vs : List (List ℤ)) → ((v : List ℤ) → Contains vs v → P (f v)) → All P (map f vs)
@@ -26,10 +27,6 @@ all_mapped P f (v ∷ vs) h = All-cons P (f v) (map f vs) (h v (Contains-head v 
 rest_in : (s : List (List ℤ)) (v : List ℤ) → Contains (drop 1 s) v → Contains s v
 rest_in [] v c = c
 rest_in (u ∷ vs) v c = Contains-tail u vs v c
-
-chunks_are : (n d : ℕ) (u : List ℤ) → chunks n d u ≡ first_rows n d u
-chunks_are zero d u = refl
-chunks_are (suc n) d u = ap (λ l. take d u ∷ l) (chunks_are n d (drop d u))
 
 columns_all : (d : ℕ) (q : List ℤ) (vs ws : List (List ℤ)) → length vs ≡ d → AllOfDimension d (map (λ w. map (λ v. polar q v w) vs) ws)
 columns_all d q vs [] l = tt

@@ -18,5 +18,6 @@ IsRadius d q s r = (g : ℤ) × (p : List ℤ) × IsCentre d q s r.num r.den g p
 pub record IsCover (d : ℕ) (q : List ℤ) (t : List (List (List ℤ))) (r : Ratio) (k : ℕ) : Type 0 where
   pub within : k < length t
   pub radius : IsRadius d q (get_or t k []) r
-  pub greatest : (j : ℕ) (x : Ratio) → j < length t → IsRadius d q (get_or t j []) x → (x.num *ℤ r.den) ≤ℤ (r.num *ℤ x.den)
+  pub greatest : (j : ℕ) (x : Ratio) → j < length t → IsRadius d q (get_or t j []) x
+      → (x.num *ℤ r.den) ≤ℤ (r.num *ℤ x.den)
   pub first : (j : ℕ) (x : Ratio) → j < k → IsRadius d q (get_or t j []) x → (x.num *ℤ r.den) <ℤ (r.num *ℤ x.den)

@@ -8,7 +8,8 @@ use Rattle.lt_cover.specs.Covers.{IsCover}
 
 -- some integer point has at most the squared distance r from the rational point x / m
 abbrev pub HasNearPoint : ℕ → List ℤ → Ratio → ℤ → List ℤ → Type 0
-HasNearPoint d q r m x = (v : List ℤ) × (length v ≡ d) × ((r.den *ℤ value q (minus (scale m v) x)) ≤ℤ (r.num *ℤ (m *ℤ m)))
+HasNearPoint d q r m x = (v : List ℤ) × (length v ≡ d) × ((r.den *ℤ value q (minus (scale m v) x)) ≤ℤ
+    (r.num *ℤ (m *ℤ m)))
 
 -- no integer point has less than the squared distance r from the rational point p / g
 pub record IsDeepest (d : ℕ) (q : List ℤ) (r : Ratio) (g : ℤ) (p : List ℤ) : Type 0 where
@@ -22,4 +23,5 @@ pub record IsCoveringRadius (d : ℕ) (q : List ℤ) (r : Ratio) : Type 0 where
   pub reached : (g : ℤ) × (p : List ℤ) × IsDeepest d q r g p
 
 abbrev pub CoversAreCoveringRadii : Type 0
-CoversAreCoveringRadii = (d : ℕ) (q : List ℤ) (t : List (List (List ℤ))) (r : Ratio) (k : ℕ) → IsDelaunay d q t → IsCover d q t r k → IsCoveringRadius d q r
+CoversAreCoveringRadii = (d : ℕ) (q : List ℤ) (t : List (List (List ℤ))) (r : Ratio) (k : ℕ) → IsDelaunay d q t
+    → IsCover d q t r k → IsCoveringRadius d q r

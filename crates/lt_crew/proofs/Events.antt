@@ -1,6 +1,5 @@
 -- Events at different positions below a limit are at most as many.
 use Rattle.std.proofs.Common.{◌≡◌, ◌≢◌, ℕ, suc, ◌+◌, ◌<◌, ◌≤◌, refl, arith, sym, subst, inl, inr, List, [], ◌∷◌, ◌++◌, map, length, true, false, Bool, length-append, eqb, ne_eqb, ◌||◌}
-use Rattle.std.specs.Prelude.{Result, Ok, Err, IfOk, OnOk, OnErr}
 use Rattle.std.specs.List.{IsDistinct, AllByRecursion, list_any}
 use Rattle.std.proofs.lemmas.List.{length-map, map-append, get_or_at, get_or_append_left}
 use Rattle.std.proofs.lemmas.Bool.{cases_lt}
@@ -67,15 +66,6 @@ within_grow a p x steps w h =
     let l = length-append a.log (e ∷ []) in
     let n = length-append a.entries (x ∷ []) in
     record { below = below_more a.log e steps w.below h; few = omega (arith, f, l, n) }
-
-module _ {X E : Type 0} (a b : Atlas) (p : ℕ) (steps : ℕ) (w : IsWithin a steps) (h : p < steps) where
-  pub within_pushed : (r : Result X E) (m : Mark) → OnOk r (b ≡ push a p m) → OnErr r (b ≡ a) → IsWithin b steps
-  within_pushed (Ok x) m hit miss = subst (λ (z : Atlas). IsWithin z steps) (sym hit) (within_push a p m steps w h)
-  within_pushed (Err x) m hit miss = subst (λ (z : Atlas). IsWithin z steps) (sym miss) w
-
-  pub within_grown : (r : Result X E) (e : Entry) (P : X → Type 0) → IfOk r (λ k. P k × (b ≡ grow a p e)) → OnErr r (b ≡ a) → IsWithin b steps
-  within_grown (Ok x) e P hit miss = subst (λ (z : Atlas). IsWithin z steps) (sym hit.1) (within_grow a p e steps w h)
-  within_grown (Err x) e P hit miss = subst (λ (z : Atlas). IsWithin z steps) (sym miss) w
 
 -- ---- what a recording does to what a desk keeps: the number of events, the triangulations, and the limits
 

@@ -44,9 +44,6 @@ pub record IsRestTo (s a : Atlas) (steps p : ℕ) : Type 0 where
   pub events : AreSettled a
   pub settled : (q : ℕ) → q < p → (q < length a.queue) × (mark_at a.marks (place_at a.queue q) ≢ open_mark)
 
-pub rest_begins : (s : Atlas) (steps : ℕ) → AreBelow steps s.log → length s.entries ≤ 100001 + length s.log → AreSettled s → IsRestTo s s steps 0
-rest_begins s steps below few events = record { begins = refl; within = record { below = below; few = few }; events = events; settled = λ q l. absurd (omega arith) }
-
 -- the mark there was settled already
 pub rest_goes_on : (s a : Atlas) (steps p : ℕ) → IsRestTo s a steps p → p < length a.queue → mark_at a.marks (place_at a.queue p) ≢ open_mark → IsRestTo s a steps (p + 1)
 rest_goes_on s a steps p r l n = record {

@@ -1,5 +1,5 @@
 -- What a worker copied from a place, and what it knows of it when it comes back.
-use Rattle.std.proofs.Common.{◌≡◌, ◌⊎◌, ℕ, suc, ℤ, ◌+◌, ◌*◌, ◌<◌, ◌≤◌, arith, sym, ap, ◌∙◌, subst, inl, inr, List, [], ◌∷◌, ◌++◌, length, get_or, map, take, length-append}
+use Rattle.std.proofs.Common.{◌≡◌, ℕ, suc, ℤ, ◌+◌, ◌*◌, ◌<◌, ◌≤◌, arith, sym, ap, ◌∙◌, subst, inl, inr, List, [], ◌∷◌, ◌++◌, length, get_or, map, take, length-append}
 use Rattle.lt_model.specs.Walls.{IsAcross}
 use Rattle.lt_model.specs.Matrices.{AreEquivalent}
 use Rattle.lt_model.specs.Atlases.{Classes, Entry, Atlas, no_entry, entry_at, place_at, facets}
@@ -16,13 +16,14 @@ use Rattle.lt_triang.proofs.Expressed.{dimension_is}
 use Rattle.lt_match.specs.Matches.{IsFirstMatch}
 use Rattle.lt_core.specs.Marks.{matrix_rows}
 use Rattle.lt_colour.specs.Signatures.{IsFingerprint}
+use Rattle.lt_core.proofs.Standing.{square_rows}
 use Rattle.lt_crew.specs.declared.desk.Task.{Task}
 use Rattle.lt_crew.specs.declared.desk.Test.{Test}
 use Rattle.lt_crew.specs.Settled.{LiesAcross, IsNarrow}
 use Rattle.lt_crew.specs.Standing.{StandsAt}
 use Rattle.lt_crew.specs.Tasks.{home_of, known_of, IsTask, IsBeyond, IsTest, AreKnown, IsUnlikeKnown}
 use Rattle.lt_crew.proofs.Places.{stands_at, form_here, is_facet}
-use Rattle.lt_crew.proofs.Beyond.{facet_here, lies_across, narrow_here, square_rows}
+use Rattle.lt_crew.proofs.Beyond.{facet_here, lies_across, narrow_here}
 
 -- the same, of the copies
 pub stands_as : (a : Atlas) (p : ℕ) (t r : Classes) (n m : List ℤ) → StandsAt a p (dimension_of t) t n → t ≡ r → n ≡ m → StandsAt a p (dimension_of r) r m
@@ -30,11 +31,8 @@ stands_as a p t r n m h same facet = subst (λ (z : List ℤ). StandsAt a p (dim
 
 module _ (a : Atlas) (low : 2 ≤ a.dimension) (kept : IsKept (IsAcross a.dimension) a) (p : ℕ) (here : p < length a.queue) where
   module _ (k f : ℕ) (e : Entry) (n : List ℤ) (hk : k ≡ (place_at a.queue p).0) (hf : f ≡ (place_at a.queue p).1) (he : e ≡ entry_at a.entries k) (hn : n ≡ get_or (facets e) f []) where
-    there : StandsAt a p (dimension_of e.triangulation) e.triangulation n
-    there = stands_at a low kept p here k f e n hk hf he hn
-
     pub copies_stand : (home : Classes) (normal : List ℤ) → e.triangulation ≡ home → n ≡ normal → StandsAt a p (dimension_of home) home normal
-    copies_stand home normal h m = stands_as a p e.triangulation home n normal there h m
+    copies_stand home normal h m = stands_as a p e.triangulation home n normal (stands_at a low kept p here k f e n hk hf he hn) h m
 
     pub task_of : (t : Task) → (home_of t) ≡ e.triangulation → t.normal ≡ n → IsTask t
     task_of t h m =
@@ -57,18 +55,6 @@ one_known a print known from k seen before between h same i l n f =
       | inr x ↦ elim (cases_lt i k) [
         | inl y ↦ absurd (between i x y f)
         | inr y ↦ (let e : k ≡ i = omega (arith, l, y) in (seen, h, sym same ∙ ap (λ (z : ℕ). (entry_at a.entries z).triangulation) e))
-      ]
-    ]
-
--- where there is no more of them below the number, all are known
-pub all_known : (a : Atlas) (print : List ℤ) (known : List Classes) (from k n : ℕ) → AreKnown a print known from → ((i : ℕ) → from ≤ i → i < k → IsFingerprint a.dimension (entry_at a.entries i).triangulation print → ⊥)
-    → n ≤ k ⊎ length a.entries ≤ k → AreKnown a print known n
-all_known a print known from k n before between most i l m f =
-    elim (cases_lt i from) [
-      | inl x ↦ before i x m f
-      | inr x ↦ elim most [
-        | inl y ↦ absurd (between i x (omega (arith, l, y)) f)
-        | inr y ↦ absurd (between i x (omega (arith, m, y)) f)
       ]
     ]
 

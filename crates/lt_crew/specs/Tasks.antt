@@ -38,7 +38,8 @@ IsUnlikeKnown r known = (j : ℕ) → j < length known → AreEquivalent (dimens
 -- each entry below the number with this fingerprint is a known one
 abbrev pub AreKnown : Atlas → List ℤ → List Classes → ℕ → Type 0
 AreKnown a print known n =
-    (i : ℕ) → i < n → i < length a.entries → IsFingerprint a.dimension (entry_at a.entries i).triangulation print → (j : ℕ) × (j < length known) × (get_or known j [] ≡ (entry_at a.entries i).triangulation)
+    (i : ℕ) → i < n → i < length a.entries → IsFingerprint a.dimension (entry_at a.entries i).triangulation print
+    → (j : ℕ) × (j < length known) × (get_or known j [] ≡ (entry_at a.entries i).triangulation)
 
 -- u is the first matrix that carries what lies beyond the facet onto the image
 pub record IsCarried (t : Task) (image : Classes) (u : List (List ℤ)) : Type 0 where

@@ -59,7 +59,8 @@ fn seek<L: Ledger, R: Wait>(
     requires delaunay { IsOfSomeForm beyond.now }
     requires test { IsTest beyond.now test.old }
     ensures kept { IsTest beyond.now test.new }
-    ensures found { IfOk result (λ r. IfSome r (λ x. IsFirstMatch (dimension_of beyond.now) beyond.now (arc_value x.1) (matrix_rows x.2))) }
+    ensures found { IfOk result (λ r. IfSome r (λ x. IsFirstMatch (dimension_of beyond.now) beyond.now (arc_value x.1)
+        (matrix_rows x.2))) }
 {
     let mut from = test.tested;
     'seeks: for _ in rt.forever() {

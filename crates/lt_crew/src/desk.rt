@@ -205,7 +205,8 @@ impl<L: Ledger> Desk<L> {
 
     /// Whether the facet that a worker crossed is that at the position.
     fn stands(&self, position: u64, task: &Task) -> bool
-        ensures { result ≡ true → (position < self.now.steps) × (position < length self.now.atlas.queue) × StandsAt self.now.atlas position (dimension_of (home_of task.now)) (home_of task.now) task.now.normal }
+        ensures { result ≡ true → (position < self.now.steps) × (position < length self.now.atlas.queue)
+            × StandsAt self.now.atlas position (dimension_of (home_of task.now)) (home_of task.now) task.now.normal }
     {
         if position >= self.steps || position >= self.atlas.queued() {
             return false;
@@ -229,7 +230,8 @@ impl<L: Ledger> Desk<L> {
     ) -> Answer
         requires part { 0 < share.old.parts }
         requires carried { IsCarried task.now image.now (matrix_rows matrix) }
-        ensures done { IsDone result (push self.old.atlas position (cross target (matrix_rows matrix))) self.old.atlas self.new.atlas }
+        ensures done { IsDone result (push self.old.atlas position (cross target (matrix_rows matrix))) self.old.atlas
+            self.new.atlas }
         ensures parts { share.new.parts ≡ share.old.parts }
         ensures counted { IsCounted result share.old.amount share.new.amount }
     {
@@ -262,7 +264,8 @@ impl<L: Ledger> Desk<L> {
     ) -> Answer
         requires part { 0 < share.old.parts }
         requires wide { IsWideFlip (dimension_of (home_of task.now)) (home_of task.now) task.now.normal class span }
-        ensures done { IsDone result (push self.old.atlas position (wide class (nat_abs span))) self.old.atlas self.new.atlas }
+        ensures done { IsDone result (push self.old.atlas position (wide class (nat_abs span))) self.old.atlas
+            self.new.atlas }
         ensures parts { share.new.parts ≡ share.old.parts }
         ensures counted { IsCounted result share.old.amount share.new.amount }
     {
@@ -296,7 +299,8 @@ impl<L: Ledger> Desk<L> {
         requires beyond { IsBeyond task.now beyond.now }
         requires heavy { IsHeavyCone (dimension_of beyond.now) beyond.now (Heavy weight) }
         requires tested { IsTest beyond.now test.now }
-        ensures done { IsDone result (push self.old.atlas position (heavy (nat_abs weight))) self.old.atlas self.new.atlas }
+        ensures done { IsDone result (push self.old.atlas position (heavy (nat_abs weight))) self.old.atlas
+            self.new.atlas }
         ensures parts { share.new.parts ≡ share.old.parts }
         ensures counted { IsCounted result share.old.amount share.new.amount }
     {
@@ -331,7 +335,8 @@ impl<L: Ledger> Desk<L> {
         requires copy { arc_value copy ≡ beyond }
         requires cone { IsRightCone (dimension_of beyond) beyond cone }
         requires tested { IsTest beyond test.now }
-        ensures ok { OnOk result ((self.new.atlas ≡ grow self.old.atlas position (candidate self.old.atlas position beyond cone)) × (share.new.amount ≡ share.old.amount + 1)) }
+        ensures ok { OnOk result ((self.new.atlas ≡ grow self.old.atlas position
+            (candidate self.old.atlas position beyond cone)) × (share.new.amount ≡ share.old.amount + 1)) }
         ensures err { OnErr result ((self.new.atlas ≡ self.old.atlas) × (share.new.amount ≡ share.old.amount)) }
         ensures back { IfErr result (λ b. (b.beyond ≡ beyond) × (b.cone ≡ cone)) }
         ensures parts { share.new.parts ≡ share.old.parts }
@@ -379,7 +384,8 @@ impl<L: Ledger> Desk<L> {
 
     /// Whether the entries that the worker compared are those with the fingerprint here.
     fn knows(&self, test: &Test) -> bool
-        ensures { result ≡ true → (test.now.tested ≤ length self.now.atlas.entries) × AreKnown self.now.atlas test.now.print.items (known_of test.now) test.now.tested }
+        ensures { result ≡ true → (test.now.tested ≤ length self.now.atlas.entries)
+            × AreKnown self.now.atlas test.now.print.items (known_of test.now) test.now.tested }
     {
         test.tested <= self.atlas.entries()
             && are_known(

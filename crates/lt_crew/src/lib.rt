@@ -17,4 +17,4 @@ pub use desk::{Desk, Turn};
 pub use gate::{Gate, OpenGate};
 pub use laws::narrow_runs_are_closed;
 pub use running::{Ended, run_alone};
-pub use settling::settle;
+pub use settling::{first_known, settle};

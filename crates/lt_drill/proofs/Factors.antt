@@ -7,15 +7,16 @@ use Rattle.std.proofs.lemmas.List.Elements.{All-nil, All-cons, All-weaker, All-s
 use Rattle.lt_model.specs.Vectors.{dot, unit, zeros, combine}
 use Rattle.lt_model.specs.Facets.{number_at}
 use Rattle.lt_model.specs.Flat.{flat}
-use Rattle.lt_model.specs.Matrices.{apply, times, identity, IsSquare, IsInverse}
+use Rattle.lt_model.specs.Matrices.{apply, times, identity, IsSquare}
 use Rattle.lt_model.specs.Simplices.{AllOfDimension}
 use Rattle.lt_model.proofs.Flat.{identity_square, length-flat, times_square, get-identity, number_at-combine, number_at-unit_other}
 use Rattle.lt_model.proofs.Opposite.{unit-dot, length-unit}
 use Rattle.lt_model.proofs.Ring.{ring, ring_by, var, num, ◌⊕◌, ◌⊖◌, ◌⊗◌}
-use Rattle.lt_geometry.proofs.Matrices.{IsUndone, length-apply, apply-times, apply-identity, same_matrices, inverse_from_undone}
+use Rattle.lt_geometry.proofs.Matrices.{IsUndone, apply-times, apply-identity, same_matrices}
 use Rattle.lt_lattice.specs.Ranges.{IsWithin, IsBelow}
 use Rattle.lt_lattice.proofs.Dots.{product_within}
 use Rattle.std.proofs.lemmas.Bool.{cases_lt, cases_eq}
+use Rattle.lt_model.proofs.Points.{length-apply}
 use Rattle.lt_drill.specs.Scrambles.{factor}
 
 -- ---- one number changed
@@ -94,10 +95,6 @@ module _ (d i j : ℕ) (hi : i < d) (hj : j < d) (other : i ≢ j) where
     right = λ x l. taken_back z (neg_ℤ z) x (omega (arith, ints)) l;
     left = λ x l. taken_back (neg_ℤ z) z x (omega (arith, ints)) l;
   }
-
-  -- so it has a whole inverse
-  pub factor_inverse : (z : ℤ) → IsInverse d (factor d i j z) (factor d i j (neg_ℤ z))
-  factor_inverse z = inverse_from_undone d (factor d i j z) (factor d i j (neg_ℤ z)) (undone_factor z)
 
 -- ---- numbers within a bound
 

@@ -8,7 +8,7 @@ use Rattle.std.proofs.lemmas.List.Elements.{All-head, All-tail, All-append, All-
 use Rattle.lt_model.proofs.Ring.{ring, var, num, neg, ◌⊕◌, ◌⊗◌}
 use Rattle.lt_model.proofs.Vectors.{dot_comm, dot-scale}
 use Rattle.lt_model.proofs.Excess.{dot-combine, same_from_dots}
-use Rattle.lt_model.proofs.Walk.{length-combine}
+use Rattle.lt_model.proofs.Walk.{length-combine, length-map}
 use Rattle.lt_model.proofs.Opposite.{length-zeros, zeros-dot}
 use Rattle.lt_model.proofs.Sets.{each_holds}
 use Rattle.lt_model.specs.Cones.{AreBelow}
@@ -16,6 +16,7 @@ use Rattle.lt_model.specs.Limits.{span_limit}
 use Rattle.lt_model.specs.Order.{number_list_cmp}
 use Rattle.lt_model.specs.Vectors.{minus, scale, dot, total, combine, zeros, IsPrimitive}
 use Rattle.lt_model.specs.Simplices.{AllOfDimension, IsClass, IsExpression}
+use Rattle.lt_model.proofs.Points.{all_appended}
 use Rattle.lt_geometry.proofs.Classes.{one_class, own_class}
 use Rattle.lt_geometry.proofs.Reading.{dot-append_both}
 use Rattle.lt_lattice.specs.Ranges.{IsWithin}
@@ -63,14 +64,6 @@ map-append : (g : List ℤ → ℤ) (vs : List (List ℤ)) (x : List ℤ) → ma
 map-append g [] x = refl
 map-append g (v ∷ vs) x = ap (λ l. g v ∷ l) (map-append g vs x)
 
-length-mapped : (g : List ℤ → ℤ) (vs : List (List ℤ)) → length (map g vs) ≡ length vs
-length-mapped g [] = refl
-length-mapped g (v ∷ vs) = ap suc (length-mapped g vs)
-
-all_more : (d : ℕ) (vs : List (List ℤ)) (x : List ℤ) → AllOfDimension d vs → length x ≡ d → AllOfDimension d (vs ++ x ∷ [])
-all_more d [] x h l = (l, tt)
-all_more d (v ∷ vs) x h l = (h.0, all_more d vs x h.1 l)
-
 raw_more : (d : ℕ) (vs : List (List ℤ)) (x b : List ℤ) (y : ℤ) → AllOfDimension d vs → length x ≡ d → length b ≡ length vs → total b +ℤ y ≡ pos 0 → ((u : List ℤ) → dot b (map (dot u) vs) +ℤ y *ℤ dot u x ≡ pos 0) → IsPrimitive (b ++ y ∷ []) → IsRawFlat d (vs ++ x ∷ []) (b ++ y ∷ [])
 raw_more d vs x b y all lx lb t at p =
     let l1 = length-append b (y ∷ []) in
@@ -79,8 +72,8 @@ raw_more d vs x b y all lx lb t at p =
     record {
       one_each = each;
       total_is = total-append b y ∙ t;
-      sum = same_from_dots (combine (b ++ y ∷ []) (vs ++ x ∷ [])) (zeros d) (length-combine d (b ++ y ∷ []) (vs ++ x ∷ []) (all_more d vs x all lx) each (omega (arith, l2)) ∙ sym (length-zeros d))
-          (λ u. dot-combine u (b ++ y ∷ []) (vs ++ x ∷ []) ∙ ap (dot (b ++ y ∷ [])) (map-append (dot u) vs x) ∙ dot-append_both b (y ∷ []) (map (dot u) vs) (dot u x ∷ []) (lb ∙ sym (length-mapped (dot u) vs))
+      sum = same_from_dots (combine (b ++ y ∷ []) (vs ++ x ∷ [])) (zeros d) (length-combine d (b ++ y ∷ []) (vs ++ x ∷ []) (all_appended d vs x all lx) each (omega (arith, l2)) ∙ sym (length-zeros d))
+          (λ u. dot-combine u (b ++ y ∷ []) (vs ++ x ∷ []) ∙ ap (dot (b ++ y ∷ [])) (map-append (dot u) vs x) ∙ dot-append_both b (y ∷ []) (map (dot u) vs) (dot u x ∷ []) (lb ∙ sym (length-map (dot u) vs))
           ∙ ring (dot b (map (dot u) vs) ∷ y ∷ dot u x ∷ []) (var 0 ⊕ (var 1 ⊗ var 2 ⊕ num (pos 0))) (var 0 ⊕ var 1 ⊗ var 2) tt ∙ at u ∙ sym (dot_comm u (zeros d) ∙ zeros-dot d u));
       primitive = p;
     }

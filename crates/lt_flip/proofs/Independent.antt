@@ -12,9 +12,9 @@ use Rattle.lt_model.proofs.Expressions.{number_at-zeros, total-plus, total-scale
 use Rattle.lt_model.specs.Vectors.{plus, scale, dot, total, combine, zeros}
 use Rattle.lt_model.specs.Simplices.{AreIndependent, IsSimplex, IsExpression}
 use Rattle.lt_model.specs.Facets.{without, with_at, number_at}
+use Rattle.lt_model.proofs.Dependent.{all_without}
 use Rattle.lt_triang.specs.Flat.{IsFlat, leading}
 use Rattle.lt_triang.proofs.Signs.{leading_primitive}
-use Rattle.lt_triang.proofs.Shifts.{all_without}
 
 without-zeros : (k n : ℕ) → k < suc n → without k (zeros (suc n)) ≡ zeros n
 without-zeros zero n h = refl

@@ -2,7 +2,7 @@ mod Independent
 pub mod Near
 mod MadeClasses
 mod Collected
-mod Wide
+pub mod Wide
 mod SortedPoints
 mod CellsBelow
 mod Dependencies

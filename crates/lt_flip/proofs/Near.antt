@@ -3,7 +3,7 @@ use Rattle.std.proofs.Common.{◌≡◌, ℕ, suc, ℤ, negsuc, ◌+◌, ◌*◌
 use Rattle.std.proofs.lemmas.Int.{ints}
 use Rattle.std.specs.List.{All, Contains}
 use Rattle.std.proofs.lemmas.List.Elements.{Contains-get_or}
-use Rattle.lt_model.proofs.Sets.{Contains-head, Contains-tail, Contains-cases, Contains-none, each_holds}
+use Rattle.lt_model.proofs.Sets.{Contains-cases, each_holds}
 use Rattle.lt_model.proofs.Squares.{length-plus}
 use Rattle.lt_model.proofs.Vectors.{dot-plus, dot-scale}
 use Rattle.lt_model.proofs.Excess.{same_from_dots, length-translate}
@@ -12,6 +12,7 @@ use Rattle.lt_model.specs.Limits.{span_limit}
 use Rattle.lt_model.specs.Vectors.{plus, minus, scale, dot}
 use Rattle.lt_model.specs.Simplices.{AllOfDimension, IsClass, translate}
 use Rattle.lt_model.specs.Facets.{without, IsNeighbour}
+use Rattle.lt_model.proofs.Translates.{from_translate}
 use Rattle.lt_lattice.specs.Ranges.{IsWithin}
 use Rattle.lt_triang.specs.Across.{IsOuterVertex}
 use Rattle.lt_triang.specs.Bounds.{AreNear}
@@ -32,14 +33,6 @@ minus_split d x u y lx lu ly =
     end : (v : List ℤ) → dot v (plus (minus x u) (minus u y)) ≡ dot v (minus x u) +ℤ dot v (minus u y) → dot v (minus x u) ≡ dot v x +ℤ dot v (scale (negsuc 0) u) → dot v (scale (negsuc 0) u) ≡ negsuc 0 *ℤ dot v u →
         dot v (minus u y) ≡ dot v u +ℤ dot v (scale (negsuc 0) y) → dot v (scale (negsuc 0) y) ≡ negsuc 0 *ℤ dot v y → dot v (minus x y) ≡ dot v x +ℤ dot v (scale (negsuc 0) y) → dot v (plus (minus x u) (minus u y)) ≡ dot v (minus x y)
     end v a b c e f g = omega (arith, ints, a, b, c, e, f, g)
-
-from_translate : (p : List ℤ) (vs : List (List ℤ)) (x : List ℤ) → Contains (translate p vs) x → (v : List ℤ) × Contains vs v × (plus v p ≡ x)
-from_translate p [] x c = Contains-none x c
-from_translate p (v ∷ vs) x c =
-    elim (Contains-cases (plus v p) (translate p vs) x c) [
-      | inl e ↦ (v, Contains-head v vs, e)
-      | inr r ↦ (let s = from_translate p vs x r in (s.0, Contains-tail v vs s.0 s.1, s.2))
-    ]
 
 pub near_translate : (d m : ℕ) (p : List ℤ) (vs : List (List ℤ)) → length p ≡ d → AllOfDimension d vs → AreNear m vs → AreNear m (translate p vs)
 near_translate d m p vs lp all near x y cx cy =

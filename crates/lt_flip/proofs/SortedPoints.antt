@@ -1,5 +1,5 @@
 -- A point and the vertices of a class without it, in ascending order, moved so that the first is 0.
-use Rattle.std.proofs.Common.{◌≡◌, ℕ, suc, ℤ, negsuc, ◌+◌, ◌*◌, ◌^◌, refl, ap, ap₂, arith, sym, ◌∙◌, subst, true, false, List, [], ◌∷◌, length, get_or, ◌⊎◌, inl, inr}
+use Rattle.std.proofs.Common.{◌≡◌, ℕ, suc, ℤ, negsuc, ◌*◌, ◌^◌, refl, ap, ap₂, arith, sym, ◌∙◌, subst, true, false, List, [], ◌∷◌, length, get_or, ◌⊎◌, inl, inr}
 use Rattle.std.specs.declared.cmp.Ordering.{Ordering}
 use Rattle.std.specs.declared.cmp.Ordering.TheVariants.{Less, Equal, Greater}
 use Rattle.std.specs.Ordering.{eq_by_cmp, is_eq, is_lt, ordering_reverse}
@@ -18,14 +18,15 @@ use Rattle.lt_model.specs.Limits.{span_limit}
 use Rattle.lt_model.specs.Order.{number_list_cmp}
 use Rattle.lt_model.specs.Vectors.{plus, minus, scale}
 use Rattle.lt_model.specs.Simplices.{AllOfDimension, IsClass, translate}
+use Rattle.lt_model.proofs.Points.{get_dimension, minus_itself, opposite_twice}
 use Rattle.lt_geometry.proofs.LocalWalk.{zeros-plus}
 use Rattle.lt_lattice.specs.Ranges.{IsWithin}
 use Rattle.lt_triang.specs.Bounds.{AreNear}
 use Rattle.lt_triang.proofs.Tied.{equal_points}
-use Rattle.lt_triang.proofs.Independent.{opposite_twice}
-use Rattle.lt_triang.proofs.Least.{all_permuted, none_left}
+use Rattle.lt_triang.proofs.Independent.{ascending_rest}
+use Rattle.lt_triang.proofs.Least.{all_permuted}
 use Rattle.lt_triang.proofs.Gaps.{twice_limit}
-use Rattle.lt_triang.proofs.Steps.{get_dimension, sorted_near, near_more}
+use Rattle.lt_triang.proofs.Steps.{sorted_near, near_more}
 use Rattle.lt_flip.specs.Ascending.{AreAscending}
 use Rattle.lt_flip.specs.Cells.{IsMovedFrom}
 use Rattle.lt_flip.proofs.Near.{near_translate}
@@ -37,12 +38,6 @@ less_or_equal o Less e h = cc
 less_or_equal o Equal e h = inr e
 less_or_equal o Greater e h = inl e
 
-sorted_rest : (v : List ℤ) (vs : List (List ℤ)) → IsSorted number_list_cmp (v ∷ vs) → IsSorted number_list_cmp vs
-sorted_rest v vs h k d low p =
-    let e : suc k + 1 ≡ suc (k + 1) = omega arith in
-    let f : is_lt (number_list_cmp (get_or (v ∷ vs) (suc k + 1) d) (get_or (v ∷ vs) (suc k) d)) ≡ false = h (suc k) d (omega arith) (omega arith) in
-    subst (λ (n : ℕ). is_lt (number_list_cmp (get_or (v ∷ vs) n d) (get_or vs k d)) ≡ false) e f
-
 all_members : (P : List ℤ → Type 0) (vs : List (List ℤ)) → ((y : List ℤ) → Contains vs y → P y) → AllByRecursion P vs
 all_members P [] h = tt
 all_members P (w ∷ vs) h = (h w (Contains-head w vs), all_members P vs (λ y c. h y (Contains-tail w vs y c)))
@@ -50,7 +45,7 @@ all_members P (w ∷ vs) h = (h w (Contains-head w vs), all_members P vs (λ y c
 strictly_sorted : (vs : List (List ℤ)) → IsDistinct (eq_by_cmp number_list_cmp) vs → IsSorted number_list_cmp vs → IsStrictlySortedBy number_list_cmp vs
 unfolding IsStrictlySortedBy IsDistinct
 strictly_sorted [] free up = tt
-strictly_sorted (v ∷ vs) free up = (all_members (λ y. number_list_cmp v y ≡ Less) vs above, strictly_sorted vs free.1 (sorted_rest v vs up))
+strictly_sorted (v ∷ vs) free up = (all_members (λ y. number_list_cmp v y ≡ Less) vs above, strictly_sorted vs free.1 (ascending_rest v vs up))
   where
     far : (y : List ℤ) → Contains vs y → is_lt (number_list_cmp y v) ≡ false
     far y (k, p, e) =
@@ -94,7 +89,7 @@ sorted_cell d s w ss cls lw near out h up = record {
       count = length-translate q ss ∙ count;
       dimension = translate_all d q ss lq all;
       ascending = ascending_translate d q ss lq all strict;
-      first = get-translate q 0 ss [] [] (omega (arith, count)) ∙ none_left d p lp;
+      first = get-translate q 0 ss [] [] (omega (arith, count)) ∙ minus_itself d p lp;
     };
     shift = p;
     shifted = lp;

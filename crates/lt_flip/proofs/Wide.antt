@@ -17,6 +17,7 @@ use Rattle.lt_triang.specs.Across.{IsOpenAnswer}
 use Rattle.lt_triang.specs.Kept.{IsTriangulation, AreClasses, dimension_of, IsOfSomeForm}
 use Rattle.lt_triang.proofs.Gaps.{greatest_at_most}
 use Rattle.lt_triang.proofs.Made.{not_open}
+use Rattle.lt_triang.proofs.SomeForm.{some_form as of_some_form}
 use Rattle.lt_flip.specs.Flipped.{AreFlipped, IsFirstWide, IsWideFlip}
 use Rattle.lt_flip.proofs.Collected.{IsFlippable, flip_from}
 
@@ -33,9 +34,6 @@ pub some_form : (d : ℕ) (a : List ℤ) (t t' : List (List (List ℤ))) (n : Li
 some_form d a t t' n k f =
     let x = flips_are_across d a n t t' k.two k.delaunay k.facet f in
     (minus (scale (pos x.bound) x.wall) x.form, x.beyond x.bound (omega arith))
-
-pub of_some_form : (d : ℕ) (q : List ℤ) (t : List (List (List ℤ))) → IsDelaunay d q t → IsOfSomeForm t
-of_some_form d q t k = (q, subst (λ (e : ℕ). IsDelaunay e q t) (sym (delaunay_dimension d q t k)) k)
 
 pub narrow_classes : (d : ℕ) (q : List ℤ) (t : List (List (List ℤ))) → 2 ≤ d → d ≤ 6 → IsDelaunay d q t → ((i : ℕ) → i < length t → class_span (get_or t i []) ≤ span_limit d) → AreClasses d t
 narrow_classes d q t low high k each = record {

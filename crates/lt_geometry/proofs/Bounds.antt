@@ -1,6 +1,6 @@
 -- Finitely many regulators, and the laws on wall forms with no premise but local to global.
 use Rattle.std.proofs.Common.{List, [], ◌∷◌, length, map, ◌≡◌, ◌≢◌, ℕ, ◌<◌, ◌≤◌, ◌⊎◌, inl, inr, sym, ◌∙◌, ap, ap₂, subst, arith, ℤ, pos, negsuc, neg_ℤ, ◌+ℤ◌, ◌-ℤ◌, ◌*ℤ◌, ◌<ℤ◌, ◌≤ℤ◌}
-use Rattle.std.proofs.lemmas.Int.{ints, by_lt_z}
+use Rattle.std.proofs.lemmas.Int.{ints}
 use Rattle.std.specs.List.{Contains}
 use Rattle.lt_model.proofs.Ring.{ring, ring_by_two, var, num, neg, ◌⊕◌, ◌⊖◌, ◌⊗◌}
 use Rattle.lt_model.proofs.Inequalities.{mul_nonneg_z, mul_pos_z}
@@ -22,9 +22,7 @@ use Rattle.lt_model.specs.Simplices.{IsExpression}
 use Rattle.lt_model.specs.Triangulations.{IsDelaunay}
 use Rattle.lt_model.specs.Walls.{IsRegulator, IsWallForm, IsPair}
 use Rattle.lt_model.proofs.Sets.{Contains-head, Contains-tail, Contains-cases, Contains-none}
-
-positive_factor : (a x : ℤ) → pos 0 <ℤ a → pos 0 <ℤ (a *ℤ x) → pos 0 <ℤ x
-positive_factor a x p h = by_lt_z (pos 0) x (λ l. l) (λ l. absurd (omega (arith, ints, h, mul_nonneg_z a (neg_ℤ x) (omega (arith, ints, p)) (omega (arith, ints, l)), ring (a ∷ x ∷ []) (var 0 ⊗ neg (var 1)) (neg (var 0 ⊗ var 1)) tt)))
+use Rattle.lt_geometry.proofs.Regulators.{from_multiple}
 
 together_list : {X : Type 0} → (Z : X → ℤ → Type 0) → ((v : X) (m n : ℤ) → m ≤ℤ n → Z v m → Z v n) → (L : List X) → ((v : X) → Contains L v → (m : ℤ) × Z v m) → (m : ℤ) × ((v : X) → Contains L v → Z v m)
 together_list Z up [] h = (pos 0, λ v i. Contains-none v i)
@@ -94,8 +92,8 @@ bound d two q w t n k wall b = (top.0, omega (arith, ints, top.2), holds)
       where
         at_class : (C : List (Vec d)) × (lists d C ≡ r.0) → (pos 0 <ℤ (top.0 *ℤ dot m w.numbers +ℤ dot m b.numbers)) × (pos 0 <ℤ (top.0 *ℤ dot m w.numbers -ℤ dot m b.numbers))
         at_class c = (
-          positive_factor f (top.0 *ℤ dot m w.numbers +ℤ dot m b.numbers) f_pos (omega (arith, ints, mul_pos_z z.c (top.0 *ℤ rise (at d w) x.opp +ℤ rise (at d b) x.opp) z.expr.positive ((x.later up (top.0) (top.1)).0), ring_by_two (f ∷ top.0 ∷ (dot m w.numbers) ∷ (dot m b.numbers) ∷ z.c ∷ (rise (at d w) x.opp) ∷ (rise (at d b) x.opp) ∷ []) (var 0 ⊗ (var 1 ⊗ var 2 ⊕ var 3)) (var 4 ⊗ (var 1 ⊗ var 5 ⊕ var 6)) (var 1) (var 0 ⊗ var 2) (var 4 ⊗ var 5) (num (pos 1)) (var 0 ⊗ var 3) (var 4 ⊗ var 6) tt (tie w) (tie b))),
-          positive_factor f (top.0 *ℤ dot m w.numbers -ℤ dot m b.numbers) f_pos (omega (arith, ints, mul_pos_z z.c (top.0 *ℤ rise (at d w) x.opp -ℤ rise (at d b) x.opp) z.expr.positive ((x.later up (top.0) (top.1)).1), ring_by_two (f ∷ top.0 ∷ (dot m w.numbers) ∷ (dot m b.numbers) ∷ z.c ∷ (rise (at d w) x.opp) ∷ (rise (at d b) x.opp) ∷ []) (var 0 ⊗ (var 1 ⊗ var 2 ⊖ var 3)) (var 4 ⊗ (var 1 ⊗ var 5 ⊖ var 6)) (var 1) (var 0 ⊗ var 2) (var 4 ⊗ var 5) (neg (num (pos 1))) (var 0 ⊗ var 3) (var 4 ⊗ var 6) tt (tie w) (tie b))),
+          from_multiple f (top.0 *ℤ dot m w.numbers +ℤ dot m b.numbers) f_pos (omega (arith, ints, mul_pos_z z.c (top.0 *ℤ rise (at d w) x.opp +ℤ rise (at d b) x.opp) z.expr.positive ((x.later up (top.0) (top.1)).0), ring_by_two (f ∷ top.0 ∷ (dot m w.numbers) ∷ (dot m b.numbers) ∷ z.c ∷ (rise (at d w) x.opp) ∷ (rise (at d b) x.opp) ∷ []) (var 0 ⊗ (var 1 ⊗ var 2 ⊕ var 3)) (var 4 ⊗ (var 1 ⊗ var 5 ⊕ var 6)) (var 1) (var 0 ⊗ var 2) (var 4 ⊗ var 5) (num (pos 1)) (var 0 ⊗ var 3) (var 4 ⊗ var 6) tt (tie w) (tie b))),
+          from_multiple f (top.0 *ℤ dot m w.numbers -ℤ dot m b.numbers) f_pos (omega (arith, ints, mul_pos_z z.c (top.0 *ℤ rise (at d w) x.opp -ℤ rise (at d b) x.opp) z.expr.positive ((x.later up (top.0) (top.1)).1), ring_by_two (f ∷ top.0 ∷ (dot m w.numbers) ∷ (dot m b.numbers) ∷ z.c ∷ (rise (at d w) x.opp) ∷ (rise (at d b) x.opp) ∷ []) (var 0 ⊗ (var 1 ⊗ var 2 ⊖ var 3)) (var 4 ⊗ (var 1 ⊗ var 5 ⊖ var 6)) (var 1) (var 0 ⊗ var 2) (var 4 ⊗ var 5) (neg (num (pos 1))) (var 0 ⊗ var 3) (var 4 ⊗ var 6) tt (tie w) (tie b))),
         )
           where
             C : List (Vec d)
@@ -141,7 +139,7 @@ bound d two q w t n k wall b = (top.0, omega (arith, ints, top.2), holds)
             tie e = ring ((x.opp).c ∷ (pos z.k) ∷ (dot m e.numbers) ∷ []) (var 0 ⊗ var 1 ⊗ var 2) (var 0 ⊗ (var 1 ⊗ var 2)) tt ∙ ap (λ y. (x.opp).c *ℤ y) (sym (z.is e)) ∙ rescale (placed-simp d two q t k C placed) z.w z.c (x.opp).c z.g G z.expr.is ex.is (at d e) ∙ ap (λ y. z.c *ℤ y) (ex_is e)
 
             up : pos 0 <ℤ rise (at d w) x.opp
-            up = positive_factor z.c (rise (at d w) x.opp) z.expr.positive (subst (λ y. pos 0 <ℤ y) (tie w) (mul_pos_z f (dot m w.numbers) f_pos (wall.others m r ne)))
+            up = from_multiple z.c (rise (at d w) x.opp) z.expr.positive (subst (λ y. pos 0 <ℤ y) (tie w) (mul_pos_z f (dot m w.numbers) f_pos (wall.others m r ne)))
 
 -- all that lt_walls asks of the regulators
 pub regulators : (d : ℕ) (two : 2 ≤ d) (t : List (List (List ℤ))) (q w : Form d) (n : List ℤ) → IsDelaunay d q.numbers t → IsWallForm d t n w.numbers → Regulators d two t q w n

@@ -12,12 +12,14 @@ use Rattle.lt_model.proofs.Dependent.{zero_or_not, mul-not_zero}
 use Rattle.lt_model.proofs.Excess.{dot-combine, same_from_dots}
 use Rattle.lt_model.proofs.Expressions.{has_weighted, HasWeighted}
 use Rattle.lt_model.proofs.Integers.{spread}
-use Rattle.lt_model.proofs.Sets.{Contains-head, Contains-tail, Contains-cases, Contains-none}
+use Rattle.lt_model.proofs.Sets.{Contains-head, Contains-tail, Contains-cases, Contains-none, Contains-map}
 use Rattle.lt_model.proofs.Squares.{length-scale}
 use Rattle.lt_model.proofs.Vectors.{dot-scale, plus_comm}
+use Rattle.lt_model.proofs.Moved.{plus-back}
+use Rattle.lt_model.proofs.Points.{length-apply, plus-zeros}
 use Rattle.lt_geometry.proofs.Images.{class_distinct, IsCarried, has_carried, carries_to, carries_undone}
-use Rattle.lt_geometry.proofs.Matrices.{length-apply, apply-scale, apply-zeros, dot-apply, same_matrices}
-use Rattle.lt_geometry.proofs.Motions.{moved, plus-zeros, plus_and_minus, length_of_member, IsMapped, mapped, Contains-map}
+use Rattle.lt_geometry.proofs.Matrices.{apply-scale, apply-zeros, dot-apply, same_matrices}
+use Rattle.lt_geometry.proofs.Motions.{moved, length_of_member, IsMapped, mapped}
 use Rattle.lt_geometry.proofs.Rearranged.{IsDistinct, same_place, no_longer}
 pub use Rattle.lt_geometry.specs.Carrying.{AreClasses, IsCandidate, IsFromAnOrder}
 
@@ -42,7 +44,7 @@ cancel c a b h e =
     difference : (x y : ℤ) → x ≡ y → x -ℤ y ≡ pos 0
     difference x y e = omega (arith, ints, e)
 
-map_same_members : (f g : List ℤ → ℤ) (vs : List (List ℤ)) → ((x : List ℤ) → Contains vs x → f x ≡ g x) → map f vs ≡ map g vs
+pub map_same_members : (f g : List ℤ → ℤ) (vs : List (List ℤ)) → ((x : List ℤ) → Contains vs x → f x ≡ g x) → map f vs ≡ map g vs
 map_same_members f g [] h = refl
 map_same_members f g (v ∷ vs) h = rw (h v (Contains-head v vs), map_same_members f g vs (λ x c. h x (Contains-tail v vs x c))) refl
 
@@ -132,7 +134,7 @@ carried_order d t2 u v s s2 m k = record {
     images : (i : ℕ) → i < suc d → apply u (get_or s i []) ≡ minus (get_or s2 (get_or p i 0) []) (get_or s2 (get_or p 0 0) [])
     images i hi =
         sym (ap (λ x. minus x (get_or s2 (get_or p 0 0) [])) (place i hi).is ∙ ap (minus (moved u k.shift (get_or s i []))) first
-        ∙ plus_and_minus d (apply u (get_or s i [])) k.shift (length-apply u (get_or s i []) ∙ k.motion.undone.square.rows) k.motion.shift)
+        ∙ plus-back d (apply u (get_or s i [])) k.shift (length-apply u (get_or s i []) ∙ k.motion.undone.square.rows) k.motion.shift)
 
 -- a matrix that carries t onto t2 is the candidate of some member of t2 and some order, for each member s of t
 pub carries_is_candidate : (d : ℕ) (u : List (List ℤ)) (t t2 : List (List (List ℤ))) (s : List (List ℤ)) → AreClasses d t → Carries d u t t2 → Contains t s → IsFromAnOrder d t2 s u
@@ -141,17 +143,6 @@ carries_is_candidate d u t t2 s classes h m =
     carried_order d t2 u h.inverse s k.list (carries_to d u t t2 s k.list h m k.is) k.is
 
 -- ---- a member and a matrix have one order
-
-same_lists : (n : ℕ) (p r : List ℕ) → length p ≡ n → length r ≡ n → ((i : ℕ) → i < n → get_or p i 0 ≡ get_or r i 0) → p ≡ r
-same_lists zero [] [] lp lr h = refl
-same_lists zero (a ∷ p) r lp lr h = absurd (omega arith)
-same_lists zero [] (b ∷ r) lp lr h = absurd (omega arith)
-same_lists (suc n) [] r lp lr h = absurd (omega arith)
-same_lists (suc n) (a ∷ p) [] lp lr h = absurd (omega arith)
-same_lists (suc n) (a ∷ p) (b ∷ r) lp lr h =
-    let head : a ≡ b = h 0 (omega arith) in
-    let tail : p ≡ r = same_lists n p r (omega arith) (omega arith) (λ i hi. h (suc i) (omega arith)) in
-    cc
 
 -- ---- an order's numbers are below its length
 

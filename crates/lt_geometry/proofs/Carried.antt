@@ -19,10 +19,11 @@ use Rattle.lt_model.proofs.Sets.{same_members, number_list_cmp_total}
 use Rattle.lt_model.proofs.Squares.{length-scale, length-plus}
 use Rattle.lt_model.proofs.Translates.{ascending_translate}
 use Rattle.lt_model.proofs.Vectors.{dot-plus, dot-scale}
+use Rattle.lt_model.proofs.Points.{length-apply}
 use Rattle.lt_geometry.specs.Carrying.{AreClasses}
 use Rattle.lt_geometry.proofs.Images.{IsImage, image_rearranged, class_distinct, IsCarried, carried_back, HasCarried, has_carried, HasOrigin, carries_to, carries_from, carries_undone}
 use Rattle.lt_geometry.proofs.Induced.{pulled, value-pulled, length-pulled}
-use Rattle.lt_geometry.proofs.Matrices.{IsUndone, undone_back, length-apply, apply-plus, apply-zeros}
+use Rattle.lt_geometry.proofs.Matrices.{IsUndone, undone_back, apply-plus, apply-zeros}
 use Rattle.lt_geometry.proofs.Motions.{moved, IsMotion, motion_back, moved_back, length-moved, moved_all, mapped, IsMapped, length_of_member, expression_moved_by, expression_rearranged, excess_rearranged, excess_moved_by}
 use Rattle.lt_geometry.proofs.Rearranged.{IsRearranged, IsDistinct, rearrange, same_place, placed, HasPlace, Contains-without, Contains-with, not_in_without}
 use Rattle.lt_geometry.proofs.Sorting.{sorted_is_distinct, sorted_without}

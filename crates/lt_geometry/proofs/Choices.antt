@@ -7,14 +7,12 @@ use Rattle.std.specs.declared.cmp.Ordering.TheVariants.{Less}
 use Rattle.std.specs.Cmp.{IsTotalOrder}
 use Rattle.std.proofs.lemmas.List as lists
 use Rattle.std.proofs.lemmas.List.Elements.{Contains-append_left, Contains-append_right}
-use Rattle.lt_model.proofs.Sets.{Contains-head, Contains-tail, Contains-cases, Contains-none, each_holds, never_below_itself}
+use Rattle.lt_model.proofs.Sets.{Contains-head, Contains-tail, Contains-cases, Contains-none, each_holds, never_below_itself, Contains-map}
 use Rattle.lt_model.proofs.Walk.{length-without}
 use Rattle.lt_model.specs.Facets.{without}
 use Rattle.lt_geometry.specs.Few.{binomial}
-
-abbrev pub AreApart : {X : Type 0} → List X → Type 0
-AreApart [] = Unit {0}
-AreApart (x ∷ xs) = (Contains xs x → ⊥) × AreApart xs
+use Rattle.lt_geometry.proofs.Rearranged.{IsDistinct}
+use Rattle.lt_geometry.proofs.Sorting.{above_all}
 
 abbrev pub Stands : {X : Type 0} → List X → ℕ → X → Type 0
 Stands [] i x = ⊥
@@ -41,7 +39,7 @@ module _ {X : Type 0} where
       ]
 
 -- where each member of xs has its own in ys, xs is no longer
-pub fit : {X Y : Type 0} (R : X → Y → Type 0) (xs : List X) (ys : List Y) → AreApart xs → ((x : X) → Contains xs x → (y : Y) × Contains ys y × R x y) → ((x x' : X) (y : Y) → Contains xs x → Contains xs x' → R x y → R x' y → x ≡ x') → length xs ≤ length ys
+pub fit : {X Y : Type 0} (R : X → Y → Type 0) (xs : List X) (ys : List Y) → IsDistinct xs → ((x : X) → Contains xs x → (y : Y) × Contains ys y × R x y) → ((x x' : X) (y : Y) → Contains xs x → Contains xs x' → R x y → R x' y → x ≡ x') → length xs ≤ length ys
 fit R [] ys a has one = omega arith
 fit {X} {Y} R (x ∷ xs) ys a has one =
     let h = has x (Contains-head x xs) in
@@ -58,26 +56,13 @@ fit {X} {Y} R (x ∷ xs) ys a has one =
         ]
 
 module _ {X : Type 0} (R : X → X → Ordering) (o : IsTotalOrder R) where
-  pub apart_from_sorted : (xs : List X) → IsStrictlySortedBy R xs → AreApart xs
-  unfolding IsStrictlySortedBy
-  apart_from_sorted [] s = tt
-  apart_from_sorted (x ∷ xs) s = (λ c. never_below_itself R o x (each_holds (λ z. R x z ≡ Less) xs x s.0 c), apart_from_sorted xs s.1)
-
-  AllIn : List X → List X → Type 0
-  AllIn xs ys = (z : X) → Contains xs z → Contains ys z
-
   -- those above y of which none is y are in the rest
-  drop_head : (y : X) (xs ys : List X) → AllByRecursion (λ z. R y z ≡ Less) xs → AllIn xs (y ∷ ys) → AllIn xs ys
-  unfolding AllIn
+  pub drop_head : (y : X) (xs ys : List X) → AllByRecursion (λ z. R y z ≡ Less) xs → ((z : X) → Contains xs z → Contains (y ∷ ys) z) → (z : X) → Contains xs z → Contains ys z
   drop_head y xs ys above h z c =
       elim (Contains-cases y ys z (h z c)) [
         | inl e ↦ absurd (never_below_itself R o y (subst (λ (w : X). R y w ≡ Less) (sym e) (each_holds (λ w. R y w ≡ Less) xs z above c)))
         | inr r ↦ r
       ]
-
-  above_too : (y x : X) (xs : List X) → R y x ≡ Less → AllByRecursion (λ z. R x z ≡ Less) xs → AllByRecursion (λ z. R y z ≡ Less) xs
-  above_too y x [] h all = tt
-  above_too y x (z ∷ xs) h all = (o.trans y x z h all.0, above_too y x xs h all.1)
 
 -- ---- the sublists of a length
 
@@ -96,18 +81,10 @@ length-sublists {X} (x ∷ xs) (suc k) =
     let e2 = lists.length-map (sublists xs k) (λ (l : List X). x ∷ l) in
     omega (arith, e1, e2, length-sublists xs k, length-sublists xs (suc k))
 
-pub contains_map : {X Y : Type 0} (f : X → Y) (xs : List X) (x : X) → Contains xs x → Contains (map f xs) (f x)
-contains_map f [] x c = Contains-none x c
-contains_map {X} {Y} f (y ∷ xs) x c =
-    elim (Contains-cases y xs x c) [
-      | inl e ↦ subst (λ (w : X). Contains (map f (y ∷ xs)) (f w)) e (Contains-head (f y) (map f xs))
-      | inr r ↦ Contains-tail (f y) (map f xs) (f x) (contains_map f xs x r)
-    ]
-
 module _ {X : Type 0} (R : X → X → Ordering) (o : IsTotalOrder R) where
   -- an ascending list within an ascending list is one of its sublists
   pub is_sublist : (ys xs : List X) → IsStrictlySortedBy R xs → IsStrictlySortedBy R ys → ((z : X) → Contains xs z → Contains ys z) → Contains (sublists ys (length xs)) xs
-  unfolding IsStrictlySortedBy AllIn
+  unfolding IsStrictlySortedBy
   is_sublist [] [] sx sy h = Contains-head [] []
   is_sublist [] (x ∷ xs) sx sy h = Contains-none x (h x (Contains-head x xs))
   is_sublist (y ∷ ys) [] sx sy h = Contains-head [] []
@@ -116,12 +93,12 @@ module _ {X : Type 0} (R : X → X → Ordering) (o : IsTotalOrder R) where
         | inl e ↦
             let above : AllByRecursion (λ z. R y z ≡ Less) xs = subst (λ (w : X). AllByRecursion (λ z. R w z ≡ Less) xs) (sym e) sx.0 in
             let k = is_sublist ys xs sx.1 sy.1 (drop_head R o y xs ys above (λ z c. h z (Contains-tail x xs z c))) in
-            let m : Contains (map (λ (l : List X). y ∷ l) (sublists ys (length xs))) (y ∷ xs) = contains_map (λ (l : List X). y ∷ l) (sublists ys (length xs)) xs k in
+            let m : Contains (map (λ (l : List X). y ∷ l) (sublists ys (length xs))) (y ∷ xs) = Contains-map (λ (l : List X). y ∷ l) (sublists ys (length xs)) xs k in
             let n : Contains (map (λ (l : List X). y ∷ l) (sublists ys (length xs))) (x ∷ xs) = subst (λ (w : X). Contains (map (λ (l : List X). y ∷ l) (sublists ys (length xs))) (w ∷ xs)) e m in
             Contains-append_left (map (λ (l : List X). y ∷ l) (sublists ys (length xs))) (sublists ys (suc (length xs))) (x ∷ xs) n
         | inr r ↦
             let first : R y x ≡ Less = each_holds (λ w. R y w ≡ Less) ys x sy.0 r in
-            let k = is_sublist ys (x ∷ xs) sx sy.1 (drop_head R o y (x ∷ xs) ys (first, above_too R o y x xs first sx.0) h) in
+            let k = is_sublist ys (x ∷ xs) sx sy.1 (drop_head R o y (x ∷ xs) ys (first, above_all R o y x xs first sx.0) h) in
             Contains-append_right (map (λ (l : List X). y ∷ l) (sublists ys (length xs))) (sublists ys (suc (length xs))) (x ∷ xs) k
       ]
 

@@ -1,5 +1,5 @@
 -- The class of a set of points is unique; a class is that of its own vertices in any order.
-use Rattle.std.proofs.Common.{◌≡◌, ℕ, ℤ, negsuc, ◌<◌, refl, ap, ap₂, arith, sym, ◌∙◌, subst, List, [], ◌∷◌, length, get_or, ◌↔◌}
+use Rattle.std.proofs.Common.{◌≡◌, ℕ, ℤ, negsuc, ◌<◌, refl, ap, ap₂, arith, sym, ◌∙◌, subst, List, [], ◌∷◌, length, get_or}
 use Rattle.std.specs.List.{Contains}
 use Rattle.lt_model.specs.Order.{number_list_cmp}
 use Rattle.lt_model.specs.Vectors.{plus, scale, zeros}
@@ -7,11 +7,11 @@ use Rattle.lt_model.specs.Simplices.{IsClass, IsClassOf, translate}
 use Rattle.lt_model.proofs.Opposite.{length-zeros}
 use Rattle.lt_model.proofs.Sets.{same_members, number_list_cmp_total}
 use Rattle.lt_model.proofs.Moved.{translate-back}
-use Rattle.lt_geometry.proofs.Whole.{ascending_translate}
+use Rattle.lt_model.proofs.Translates.{ascending_translate}
 use Rattle.lt_geometry.proofs.LocalWalk.{zeros-plus}
 use Rattle.lt_geometry.proofs.Closed.{translate-zeros}
 
-first_of_translate : (p : List ℤ) (vs : List (List ℤ)) → 0 < length vs → get_or (translate p vs) 0 [] ≡ plus (get_or vs 0 []) p
+pub first_of_translate : (p : List ℤ) (vs : List (List ℤ)) → 0 < length vs → get_or (translate p vs) 0 [] ≡ plus (get_or vs 0 []) p
 first_of_translate p [] h = absurd (omega arith)
 first_of_translate p (v ∷ vs) h = refl
 
@@ -32,10 +32,6 @@ one_class d ps s s' h k =
     (λ x. (λ c. (k.same x).0 ((h.same x).1 c), λ c. (h.same x).0 ((k.same x).1 c)))
     in
     (same_translate d s s' h.shift k.shift ch ck h.dimension k.dimension up).0
-
--- points that are the translate of a class, in any order
-pub class_of_same : (d : ℕ) (ps s : List (List ℤ)) (p : List ℤ) → length p ≡ d → IsClass d s → ((x : List ℤ) → Contains ps x ↔ Contains (translate p s) x) → IsClassOf d ps s
-class_of_same d ps s p l c h = record { shift = p; dimension = l; «class» = c; same = h }
 
 -- the class of its own vertices
 pub own_class : (d : ℕ) (s : List (List ℤ)) → IsClass d s → IsClassOf d s s

@@ -12,15 +12,17 @@ use Rattle.lt_model.proofs.Excess.{dot-combine, scale-dot, plus-dot, same_from_d
 use Rattle.lt_model.proofs.Walk.{number_at-plus, number_at-scale, number_at-map, length-combine, length-map}
 use Rattle.lt_model.proofs.Opposite.{unit-dot, length-unit}
 use Rattle.lt_model.proofs.Expressions.{total-plus, total-scale}
-use Rattle.lt_geometry.proofs.Uniform.{total-zeros}
 use Rattle.lt_model.proofs.Sets.{Contains-head, Contains-tail, Contains-cases}
 use Rattle.lt_model.specs.Vectors.{plus, scale, dot, total, combine, zeros, unit, ones}
 use Rattle.lt_model.specs.Simplices.{AllOfDimension, IsExpression, translate}
 use Rattle.lt_model.specs.Facets.{number_at, without, IsBeyond}
 use Rattle.lt_model.specs.Forms.{numbers_of_form, IsPositiveDefinite}
 use Rattle.lt_model.specs.Principal.{IsOrder, path_from, principal_rows}
+use Rattle.lt_model.proofs.Flat.{number_at-unit_same}
+use Rattle.lt_model.proofs.Hadamard.{dot_nonneg}
+use Rattle.lt_model.proofs.Points.{plus-zeros, total-unit}
 use Rattle.lt_geometry.proofs.Reading.{rows_value, length-ones}
-use Rattle.lt_geometry.proofs.Paths.{unit_own, unit_other, path_first}
+use Rattle.lt_geometry.proofs.Paths.{unit_other, path_first}
 
 -- ---- positive definite
 
@@ -52,10 +54,6 @@ square_of_sum (a ∷ x) =
         in
         rw h (omega (arith, ints, own, k, l))
 
-pub own_square_not_negative : (x : List ℤ) → pos 0 ≤ℤ dot x x
-own_square_not_negative [] = omega (arith, ints)
-own_square_not_negative (a ∷ x) = omega (arith, ints, square_nonneg_z a, own_square_not_negative x)
-
 pub own_square_positive : (d : ℕ) (x : List ℤ) → length x ≡ d → x ≢ zeros d → pos 0 <ℤ dot x x
 own_square_positive zero [] l n = absurd (n refl)
 own_square_positive zero (a ∷ x) l n = absurd (omega arith)
@@ -63,8 +61,8 @@ own_square_positive (suc d) [] l n = absurd (omega arith)
 own_square_positive (suc d) (pos zero ∷ x) l n =
     let h : pos 0 <ℤ dot x x = own_square_positive d x (omega arith) (λ e. n (ap (λ (r : List ℤ). pos 0 ∷ r) e)) in
     omega (arith, ints, h)
-own_square_positive (suc d) (pos (suc a) ∷ x) l n = omega (arith, ints, own_square_not_negative x)
-own_square_positive (suc d) (negsuc a ∷ x) l n = omega (arith, ints, own_square_not_negative x)
+own_square_positive (suc d) (pos (suc a) ∷ x) l n = omega (arith, ints, dot_nonneg x)
+own_square_positive (suc d) (negsuc a ∷ x) l n = omega (arith, ints, dot_nonneg x)
 
 pub length-rows : (d k : ℕ) → length (principal_rows d k) ≡ numbers_of_form k
 length-rows d zero = refl
@@ -101,11 +99,6 @@ three-dot n i j k u lu =
     rw (plus-dot (scale (negsuc 0) (unit n i)) (plus (unit n j) (unit n k)) u, plus-dot (unit n j) (unit n k) u, scale-dot (negsuc 0) (unit n i) u)
     (omega (arith, ints, unit-dot n i u lu, unit-dot n j u lu, unit-dot n k u lu))
 
-pub total_unit : (n k : ℕ) → k < n → total (unit n k) ≡ pos 1
-total_unit zero k h = absurd (omega arith)
-total_unit (suc n) zero h = omega (arith, ints, total-zeros n)
-total_unit (suc n) (suc k) h = omega (arith, ints, total_unit n k (omega arith))
-
 -- w is v_j + v_k - v_i
 pub record IsThird (vs : List (List ℤ)) (w : List ℤ) (i j k : ℕ) : Type 0 where
   pub first : i < length vs
@@ -133,7 +126,7 @@ third_expression d vs w i j k all lw h = record {
 
     sums : total (three (length vs) i j k) ≡ pos 1
     sums =
-        rw (total-plus (scale (negsuc 0) (unit (length vs) i)) (plus (unit (length vs) j) (unit (length vs) k)), total-plus (unit (length vs) j) (unit (length vs) k), total-scale (negsuc 0) (unit (length vs) i), total_unit (length vs) i h.first, total_unit (length vs) j h.second, total_unit (length vs) k h.third) refl
+        rw (total-plus (scale (negsuc 0) (unit (length vs) i)) (plus (unit (length vs) j) (unit (length vs) k)), total-plus (unit (length vs) j) (unit (length vs) k), total-scale (negsuc 0) (unit (length vs) i), total-unit (length vs) i h.first, total-unit (length vs) j h.second, total-unit (length vs) k h.third) refl
 
 pub third_beyond : (d : ℕ) (vs : List (List ℤ)) (w : List ℤ) (i j k : ℕ) → AllOfDimension d vs → length w ≡ d → IsThird vs w i j k → IsBeyond vs i w
 third_beyond d vs w i j k all lw h = record {
@@ -149,7 +142,7 @@ third_beyond d vs w i j k all lw h = record {
         let e1 = number_at-plus i (scale (negsuc 0) (unit n i)) (plus (unit n j) (unit n k)) in
         let e2 = number_at-plus i (unit n j) (unit n k) in
         let e3 = number_at-scale i (negsuc 0) (unit n i) in
-        let e4 = unit_own n i h.first in
+        let e4 = number_at-unit_same n i h.first in
         let e5 = unit_other n j i h.apart in
         let e6 = unit_other n k i h.apart_too in
         let e7 : number_at i (scale (negsuc 0) (unit n i)) ≡ negsuc 0 = e3 ∙ ap (λ m. negsuc 0 *ℤ m) e4 in
@@ -245,14 +238,6 @@ get_dimension d [] i all h = absurd (omega arith)
 get_dimension d (v ∷ vs) zero all h = all.0
 get_dimension d (v ∷ vs) (suc i) all h = get_dimension d vs i all.1 (omega arith)
 
-pub plus-zeros : (d : ℕ) (p : List ℤ) → length p ≡ d → plus p (zeros d) ≡ p
-plus-zeros zero [] l = refl
-plus-zeros zero (a ∷ p) l = absurd (omega arith)
-plus-zeros (suc d) [] l = absurd (omega arith)
-plus-zeros (suc d) (a ∷ p) l =
-    let e : a +ℤ pos 0 ≡ a = omega (arith, ints) in
-    rw (e, plus-zeros d p (omega arith)) refl
-
 pub translate-zeros : (d : ℕ) (vs : List (List ℤ)) → AllOfDimension d vs → translate (zeros d) vs ≡ vs
 translate-zeros d [] all = refl
 translate-zeros d (v ∷ vs) all = rw (plus-zeros d v all.0, translate-zeros d vs all.1) refl
@@ -290,10 +275,3 @@ pub get_before : {X : Type 0} (xs : List X) (x y : X) (i : ℕ) → i < length x
 get_before [] x y i h = absurd (omega arith)
 get_before (z ∷ xs) x y zero h = refl
 get_before (z ∷ xs) x y (suc i) h = get_before xs x y i (omega arith)
-
--- where a path begins is a sum to each linear function of its end
-pub end_dot : (d : ℕ) (t u s : List ℤ) (p : List ℕ) → dot t (end_of d (plus u s) p) ≡ dot t (end_of d u p) +ℤ dot t s
-end_dot d t u s [] = dot-plus t u s
-end_dot d t u s (k ∷ p) =
-    let e : plus (plus u s) (unit d k) ≡ plus (plus u (unit d k)) s = plus_assoc u s (unit d k) ∙ ap (plus u) (plus_comm s (unit d k)) ∙ sym (plus_assoc u (unit d k) s) in
-    ap (λ (x : List ℤ). dot t (end_of d x p)) e ∙ end_dot d t (plus u (unit d k)) s p

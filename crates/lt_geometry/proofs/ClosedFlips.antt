@@ -1,7 +1,7 @@
 -- The flipped list is closed under facets in the model's sense.
 use Rattle.std.proofs.Common.{List, [], ◌∷◌, length, get_or, ◌≡◌, ℕ, zero, suc, ◌<◌, ◌≤◌, ◌⊎◌, inl, inr, refl, sym, ◌∙◌, ap, subst, arith, ℤ, pos, neg_ℤ, ◌<ℤ◌, ◌≤ℤ◌}
 use Rattle.std.proofs.lemmas.Int.{ints}
-use Rattle.std.specs.List.{Contains, AllByRecursion}
+use Rattle.std.specs.List.{Contains}
 use Rattle.std.specs.List.Sorted.{IsStrictlySortedBy}
 use Rattle.std.specs.declared.cmp.Ordering.TheVariants.{Less}
 use Rattle.lt_walls.proofs.Lists.{Alike, alike-refl, alike-sym, alike-trans, alike-cancel, alike-second, In, in-nil, in-head, in-cases, in-alike, upd, upd-at}
@@ -24,7 +24,8 @@ use Rattle.lt_model.specs.Facets.{without, number_at, IsBeyond, IsClosed, IsNeig
 use Rattle.lt_model.specs.Triangulations.{IsDelaunay}
 use Rattle.lt_model.specs.Walls.{IsWallForm, IsRegulator}
 use Rattle.lt_model.proofs.Sets.{Contains-cases, Contains-none, same_members, number_list_cmp_total}
-use Rattle.lt_geometry.proofs.Whole.{ascending_translate}
+use Rattle.lt_model.proofs.Translates.{ascending_translate}
+use Rattle.lt_model.proofs.Dependent.{all_without}
 
 -- a place, with the point there and the numbers of aligned lists
 pub record Seat (d : ℕ) (C : List (Vec d)) (i : ℕ) (x : Vec d) : Type 0 where
@@ -49,12 +50,6 @@ find_seat d (v ∷ C) x h = go (in-cases (vec-dec d) x v C h) (find_seat d C x)
     go (inl e) r = (0, subst (λ y. Seat d (v ∷ C) 0 y) (sym e) (record { within = omega arith; rest = C; alike = alike-refl (v ∷ C); lists_rest = refl; here = refl; number = λ G. refl }))
     go (inr k) r = let p = r k in let s = p.1 in let w : p.0 < length (lists d C) = s.within in
         (suc (p.0), record { within = omega (arith, w); rest = v ∷ s.rest; alike = alike-second v x (alike-refl (v ∷ C)) s.alike; lists_rest = ap (λ z. list d v ∷ z) s.lists_rest; here = s.here; number = λ G. s.number G })
-
--- an ascending list without a member ascends
-all_without : (P : List ℤ → Type 0) (i : ℕ) (l : List (List ℤ)) → AllByRecursion P l → AllByRecursion P (without i l)
-all_without P i [] h = h
-all_without P zero (x ∷ l) h = h.1
-all_without P (suc i) (x ∷ l) h = (h.0, all_without P i l (h.1))
 
 ascending_without : (i : ℕ) (l : List (List ℤ)) → IsStrictlySortedBy number_list_cmp l → IsStrictlySortedBy number_list_cmp (without i l)
 unfolding IsStrictlySortedBy

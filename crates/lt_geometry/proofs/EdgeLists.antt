@@ -11,11 +11,10 @@ use Rattle.std.specs.Ordering.{ordering_reverse, ordering_then, int_cmp, MatchOr
 use Rattle.std.proofs.lemmas.List as lists
 use Rattle.std.proofs.lemmas.List.Elements.{Contains-append_left, Contains-append_right, Contains-append_cases}
 use Rattle.std.proofs.Math.Nat.{pow-succ'}
-use Rattle.lt_model.proofs.Sets.{Contains-head, Contains-tail, Contains-cases, Contains-none, each_holds, number_list_cmp_total}
+use Rattle.lt_model.proofs.Sets.{Contains-head, Contains-tail, Contains-cases, Contains-none, each_holds, number_list_cmp_total, Contains-map}
 use Rattle.lt_model.specs.Order.{number_list_cmp}
 use Rattle.lt_model.specs.Vectors.{scale, zeros}
 use Rattle.lt_model.specs.Simplices.{IsClass}
-use Rattle.lt_geometry.proofs.Choices.{contains_map}
 use Rattle.lt_geometry.proofs.Parity.{parity, odd}
 
 -- members that compare as equal are equal
@@ -222,6 +221,6 @@ bits_has (suc d) (a ∷ x) l =
     by (odd a) (parity x) (omega arith) r
   where
     by : (b : ℕ) (p : List ℕ) → b < 2 → Contains (bit_lists d) p → Contains (bit_lists (suc d)) (b ∷ p)
-    by zero p h c = Contains-append_left (map (λ (l : List ℕ). 0 ∷ l) (bit_lists d)) (map (λ (l : List ℕ). 1 ∷ l) (bit_lists d)) (0 ∷ p) (contains_map (λ (l : List ℕ). 0 ∷ l) (bit_lists d) p c)
-    by (suc zero) p h c = Contains-append_right (map (λ (l : List ℕ). 0 ∷ l) (bit_lists d)) (map (λ (l : List ℕ). 1 ∷ l) (bit_lists d)) (1 ∷ p) (contains_map (λ (l : List ℕ). 1 ∷ l) (bit_lists d) p c)
+    by zero p h c = Contains-append_left (map (λ (l : List ℕ). 0 ∷ l) (bit_lists d)) (map (λ (l : List ℕ). 1 ∷ l) (bit_lists d)) (0 ∷ p) (Contains-map (λ (l : List ℕ). 0 ∷ l) (bit_lists d) p c)
+    by (suc zero) p h c = Contains-append_right (map (λ (l : List ℕ). 0 ∷ l) (bit_lists d)) (map (λ (l : List ℕ). 1 ∷ l) (bit_lists d)) (1 ∷ p) (Contains-map (λ (l : List ℕ). 1 ∷ l) (bit_lists d) p c)
     by (suc (suc b)) p h c = absurd (omega arith)

@@ -28,10 +28,10 @@ use Rattle.lt_geometry.proofs.Reading.{length-ones}
 use Rattle.lt_geometry.proofs.Unique.{one_or_other, any_default}
 use Rattle.lt_geometry.proofs.Values.{list_dec}
 use Rattle.lt_geometry.proofs.Normals.{normal_value}
-use Rattle.lt_geometry.proofs.Sides.{paving_of}
 use Rattle.lt_geometry.proofs.Regulators.{one_member}
 use Rattle.lt_geometry.proofs.LocalToGlobal.{is_local, one_on_ellipsoid}
 use Rattle.lt_geometry.proofs.Regulators.{positive_at}
+use Rattle.lt_geometry.proofs.Fewness.{paving_of}
 
 -- no excess over a member is negative at a wall form
 wall_weak : (d : ℕ) (a w n : List ℤ) (t : List (List (List ℤ))) → IsDelaunay d a t → IsWallForm d t n w → (s : List (List ℤ)) → Contains t s → IsWeaklyEmpty d w s

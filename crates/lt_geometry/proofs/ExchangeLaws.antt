@@ -16,11 +16,11 @@ use Rattle.lt_model.specs.Facets.{without, number_at, IsNeighbour}
 use Rattle.lt_model.specs.Triangulations.{IsDelaunay}
 use Rattle.lt_model.specs.Walls.{IsPair, IsFacet, IsWallForm, excess_normal}
 use Rattle.lt_model.specs.Flips.{IsExchanged}
+use Rattle.lt_model.proofs.Points.{weighted}
 use Rattle.lt_geometry.specs.Regulators.{outer_vertex, IsRegulatorAt}
 use Rattle.lt_geometry.specs.Exchanges.{IsMadeFrom}
 use Rattle.lt_geometry.proofs.WalkEnds.{not_vertex}
 use Rattle.lt_geometry.proofs.Classes as classes
-use Rattle.lt_geometry.proofs.Unique.{weighted}
 use Rattle.lt_geometry.proofs.Normals.{normal_value}
 use Rattle.lt_geometry.proofs.PrimitiveParts.{primitive_part}
 use Rattle.lt_geometry.proofs.Regulators.{length_outer, lies_above, one_regulator, to_pair, from_pair, from_multiple}

@@ -17,7 +17,7 @@ use Rattle.lt_geometry.proofs.Normals.{length-normal, normal_value}
 use Rattle.lt_geometry.proofs.Pairs.{Outer, outer, AtPlace, number_at_place, opp_beyond, unique, row_excess, class_points, base_placed}
 use Rattle.lt_geometry.proofs.ClosedFlips.{Seat, find_seat, contains_alike}
 use Rattle.lt_geometry.proofs.HasClasses.{alike_members, dot_zeros}
-use Rattle.lt_model.specs.Vectors.{scale, dot, zeros, total}
+use Rattle.lt_model.specs.Vectors.{scale, dot, zeros}
 use Rattle.lt_model.specs.Forms.{value, numbers_of_form}
 use Rattle.lt_model.specs.Simplices.{IsClass, IsExpression, translate}
 use Rattle.lt_model.specs.Facets.{without, number_at, IsBeyond, IsNeighbour}
@@ -60,10 +60,6 @@ vertex_of d two q t n k C v c b pair = (o.v, o.is ∙ sym pair.vertex, λ i. not
 
     bd : IsBeyond (lists d C) pair.facet (get_or (translate pair.shift pair.next) pair.outer [])
     bd = pair.neighbour.beyond
-
-total_minus : (b : List ℤ) → total (scale (negsuc 0) b) ≡ neg_ℤ (total b)
-total_minus [] = refl
-total_minus (a ∷ b) = ap (λ z. negsuc 0 *ℤ a +ℤ z) (total_minus b) ∙ omega (arith, ints)
 
 -- the dependency of a point and the list of its expression
 unfoldable pub dependency : (d : ℕ) → Vec d → List (Vec d) → ℤ → List ℤ → Vec d → ℤ

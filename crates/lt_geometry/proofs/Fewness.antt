@@ -1,5 +1,5 @@
 -- How many classes and regulators a triangulation has.
-use Rattle.std.proofs.Common.{◌≡◌, ℕ, zero, suc, ℤ, pos, negsuc, ◌-ℤ◌, ◌*ℤ◌, ◌<ℤ◌, ◌<◌, ◌≤◌, ◌-◌, ◌*◌, ◌^◌, refl, ap, ap₂, arith, sym, ◌∙◌, subst, List, [], ◌∷◌, ◌++◌, length, length-append, map, get_or, ◌⊎◌, inl, inr}
+use Rattle.std.proofs.Common.{◌≡◌, ℕ, zero, suc, ℤ, pos, negsuc, ◌-ℤ◌, ◌*ℤ◌, ◌<◌, ◌≤◌, ◌-◌, ◌*◌, ◌^◌, refl, ap, ap₂, arith, sym, ◌∙◌, subst, List, [], ◌∷◌, ◌++◌, length, length-append, map, get_or, ◌⊎◌, inl, inr}
 use Rattle.std.proofs.lemmas.Int.{ints}
 use Rattle.std.specs.List.{Contains}
 use Rattle.std.specs.List.Sorted.{IsStrictlySortedBy}
@@ -14,7 +14,7 @@ use Rattle.lt_model.proofs.Excess.{scale-dot, length-translate}
 use Rattle.lt_model.proofs.Moved.{translate_all}
 use Rattle.lt_model.proofs.Expressions.{one_expression}
 use Rattle.lt_model.proofs.Opposite.{length-zeros}
-use Rattle.lt_model.proofs.Sets.{Contains-head, Contains-cases, Contains-none, never_below_itself, number_list_cmp_total, simplex_cmp_total}
+use Rattle.lt_model.proofs.Sets.{Contains-head, Contains-cases, Contains-none, never_below_itself, number_list_cmp_total, simplex_cmp_total, Contains-map}
 use Rattle.lt_model.specs.Order.{number_list_cmp, simplex_cmp}
 use Rattle.lt_model.specs.Vectors.{scale, zeros, dot}
 use Rattle.lt_model.specs.Forms.{value}
@@ -24,15 +24,19 @@ use Rattle.lt_model.specs.Triangulations.{IsDelaunay}
 use Rattle.lt_geometry.specs.Paving.{IsPaving}
 use Rattle.lt_model.specs.Facets.{IsNeighbour}
 use Rattle.lt_model.specs.Walls.{IsPair, IsRegulator, AreRegulators}
+use Rattle.lt_model.proofs.Points.{weighted}
+use Rattle.lt_model.proofs.Inequalities.{natural}
 use Rattle.lt_geometry.proofs.Closed.{get_dimension}
-use Rattle.lt_geometry.proofs.Unique.{one_neighbour, weighted}
+use Rattle.lt_geometry.proofs.Unique.{one_neighbour}
 use Rattle.lt_geometry.proofs.Primitive.{same_primitive}
 use Rattle.lt_geometry.proofs.Normals.{normal_dot, length-normal}
 use Rattle.lt_geometry.proofs.Neighbours.{down_from, down_order}
-use Rattle.lt_geometry.proofs.Choices.{AreApart, fit, apart_from_sorted, sublists, length-sublists, is_sublist, contains_map, binomial_monotone, binomials}
+use Rattle.lt_geometry.proofs.Choices.{fit, sublists, length-sublists, is_sublist, binomial_monotone, binomials}
 use Rattle.lt_geometry.specs.Few.{binomial}
 use Rattle.lt_geometry.proofs.Parity.{parity, same_parity, placed_class, index_of}
 use Rattle.lt_geometry.proofs.EdgeLists.{edges_of, edge_from, all_rests, rests_has, rest_of, sorted_has, sorted_ascends, exact_points, led, in_whole, not_both, bit_lists, length-bits, bits_has}
+use Rattle.lt_geometry.proofs.Rearranged.{IsDistinct}
+use Rattle.lt_geometry.proofs.Sorting.{sorted_is_distinct}
 
 pub paving_of : (d : ℕ) (q : List ℤ) (t : List (List (List ℤ))) → IsDelaunay d q t → IsPaving d q t
 paving_of d q t h = record {
@@ -98,7 +102,7 @@ zero_vertex d q (s ∷ t) h =
 pub few_edges : (d : ℕ) (q : List ℤ) (t : List (List (List ℤ))) → IsDelaunay d q t → suc (length (edges_of t)) ≤ 2 ^ d
 few_edges d q t h =
     let r : IsStrictlySortedBy number_list_cmp (edges_of t) = sorted_ascends number_list_cmp number_list_cmp_total exact_points (all_rests t) in
-    let apart : AreApart (edges_of t) = apart_from_sorted number_list_cmp number_list_cmp_total (edges_of t) r in
+    let apart : IsDistinct (edges_of t) = sorted_is_distinct number_list_cmp number_list_cmp_total (edges_of t) r in
     let no_zero : Contains (edges_of t) (zeros d) → ⊥ = λ c. never c (edge_vertex d q t (zeros d) h c) in
     let k : suc (length (edges_of t)) ≤ length (bit_lists d) =
     fit (λ (x : List ℤ) (y : List ℕ). parity x ≡ y) (zeros d ∷ edges_of t) (bit_lists d) (no_zero, apart) (λ x c. (parity x, bits_has d x (vertex x c).dimension, refl)) (λ x x' y c c' e e'. vertices_differ d q t x x' h (vertex x c) (vertex x' c') (e ∙ sym e'))
@@ -118,7 +122,7 @@ few_edges d q t h =
 pub class_choices : (d : ℕ) (q : List ℤ) (t : List (List (List ℤ))) → IsDelaunay d q t → length t ≤ binomial (length (edges_of t)) d
 class_choices d q t h =
     let k : length t ≤ length (sublists (edges_of t) d) =
-    fit (λ (s : List (List ℤ)) (y : List (List ℤ)). rest_of s ≡ y) t (sublists (edges_of t) d) (apart_from_sorted simplex_cmp simplex_cmp_total t h.ascending) (λ s m. (rest_of s, chosen s m, refl))
+    fit (λ (s : List (List ℤ)) (y : List (List ℤ)). rest_of s ≡ y) t (sublists (edges_of t) d) (sorted_is_distinct simplex_cmp simplex_cmp_total t h.ascending) (λ s m. (rest_of s, chosen s m, refl))
     (λ s s' y m m' e e'. (led d s ((h.members s).0 m).0).whole ∙ ap (λ (l : List (List ℤ)). zeros d ∷ l) (e ∙ sym e') ∙ sym (led d s' ((h.members s').0 m').0).whole)
     in
     omega (arith, k, length-sublists (edges_of t) d)
@@ -171,7 +175,7 @@ abbrev pub spots : ℕ → List (List (List ℤ)) → List Spot
 spots n [] = []
 spots n (s ∷ t) = map (spot s) (down_from n) ++ spots n t
 
-length-down : (n : ℕ) → length (down_from n) ≡ n
+pub length-down : (n : ℕ) → length (down_from n) ≡ n
 length-down zero = refl
 length-down (suc n) = ap suc (length-down n)
 
@@ -188,7 +192,7 @@ spots_has n (r ∷ t) s i m h =
     elim (Contains-cases r t s m) [
       | inl e ↦
           Contains-append_left (map (spot r) (down_from n)) (spots n t) (spot s i)
-          (subst (λ (w : List (List ℤ)). Contains (map (spot r) (down_from n)) (spot w i)) e (contains_map (spot r) (down_from n) i ((down_order n).each i h)))
+          (subst (λ (w : List (List ℤ)). Contains (map (spot r) (down_from n)) (spot w i)) e (Contains-map (spot r) (down_from n) i ((down_order n).each i h)))
       | inr k ↦ Contains-append_right (map (spot r) (down_from n)) (spots n t) (spot s i) (spots_has n t s i k h)
     ]
 
@@ -199,10 +203,6 @@ pub record IsThere (d : ℕ) (t : List (List (List ℤ))) (n : List ℤ) (s : Li
   pub b : List ℤ
   pub pair : IsPair d t n s vertex c b
   pub facet : pair.facet ≡ i
-
-natural : (c : ℤ) → pos 0 <ℤ c → (m : ℕ) × (c ≡ pos m) × (0 < m)
-natural (pos m) h = (m, refl, omega (arith, ints))
-natural (negsuc m) h = absurd (omega (arith, ints))
 
 -- a facet has one regulator
 pub one_regulator : (d : ℕ) (q : List ℤ) (t : List (List (List ℤ))) (n m : List ℤ) (s : List (List ℤ)) (i : ℕ) → IsDelaunay d q t → IsThere d t n s i → IsThere d t m s i → n ≡ m
@@ -261,7 +261,7 @@ one_regulator d q t n m s i h x y =
 pub regulators_at_facets : (d : ℕ) (q : List ℤ) (t : List (List (List ℤ))) (ns : List (List ℤ)) → IsDelaunay d q t → AreRegulators d t ns → length ns ≤ length t * suc d
 regulators_at_facets d q t ns h r =
     let k : length ns ≤ length (spots (suc d) t) =
-    fit (λ (n : List ℤ) (y : Spot). IsThere d t n y.0 y.1) ns (spots (suc d) t) (apart_from_sorted number_list_cmp number_list_cmp_total ns r.ascending) (λ n c. there n ((r.members n).0 c)) (λ n m y c c' e e'. one_regulator d q t n m y.0 y.1 h e e')
+    fit (λ (n : List ℤ) (y : Spot). IsThere d t n y.0 y.1) ns (spots (suc d) t) (sorted_is_distinct number_list_cmp number_list_cmp_total ns r.ascending) (λ n c. there n ((r.members n).0 c)) (λ n m y c c' e e'. one_regulator d q t n m y.0 y.1 h e e')
     in
     omega (arith, k, length-spots (suc d) t)
   where

@@ -4,8 +4,8 @@ use Rattle.lt_model.specs.Simplices.{AllOfDimension}
 use Rattle.lt_model.proofs.Excess.{excess-moved}
 use Rattle.lt_model.proofs.Expressions.{one_expression}
 use Rattle.lt_geometry.specs.FirstLaws.{ExcessesMoveAlong, ExpressionsAreProportional}
-use Rattle.lt_geometry.proofs.Unique.{weighted}
 use Rattle.std.specs.Prelude.{ℕ, pos}
+use Rattle.lt_model.proofs.Points.{weighted}
 
 pub excess_moved_along : ExcessesMoveAlong
 excess_moved_along d q vs x t c b all lx lt e =

@@ -21,7 +21,7 @@ use Rattle.lt_model.specs.Order.{number_list_cmp}
 use Rattle.lt_model.specs.Simplices.{IsClass}
 use Rattle.lt_model.proofs.Excess.{dot-combine, dot-constant}
 use Rattle.lt_model.proofs.Sets.{same_members, number_list_cmp_total}
-use Rattle.lt_geometry.proofs.Whole.{ascending_translate}
+use Rattle.lt_model.proofs.Translates.{ascending_translate}
 
 -- lists without repetition that have the same members are alike
 pub alike_members : (d : ℕ) (S R : List (Vec d)) → Distinct (vec-dec d) S → Distinct (vec-dec d) R → ((x : Vec d) → In (vec-dec d) x S → In (vec-dec d) x R) → ((x : Vec d) → In (vec-dec d) x R → In (vec-dec d) x S) → Alike S R

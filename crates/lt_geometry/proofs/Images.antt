@@ -8,18 +8,20 @@ use Rattle.lt_model.specs.Order.{number_list_cmp}
 use Rattle.lt_model.specs.Simplices.{AllOfDimension, IsSimplex, IsClass, IsClassOf, translate}
 use Rattle.lt_model.specs.Vectors.{plus, scale, zeros}
 use Rattle.lt_model.proofs.Dependent.{length-map_vectors}
-use Rattle.lt_model.proofs.Moved.{simplex_moved, Contains-translate}
+use Rattle.lt_model.proofs.Moved.{simplex_moved, Contains-translate, plus-back}
 use Rattle.lt_model.proofs.Opposite.{length-zeros}
-use Rattle.lt_model.proofs.Sets.{number_list_cmp_total}
+use Rattle.lt_model.proofs.Sets.{number_list_cmp_total, Contains-map}
 use Rattle.lt_model.proofs.Squares.{length-scale, length-plus}
 use Rattle.lt_model.proofs.Translates.{ascending_translate}
 use Rattle.lt_model.proofs.Vectors.{plus_assoc}
+use Rattle.lt_model.proofs.Points.{minus_itself, length-apply, plus-zeros}
 use Rattle.lt_geometry.proofs.Classes.{one_class}
-use Rattle.lt_geometry.proofs.Matrices.{IsUndone, undone, undone_back, undone_times, undone_identity, inverse_from_undone, length-apply, apply-plus, apply-times, apply-identity}
-use Rattle.lt_geometry.proofs.Motions.{moved, IsMotion, motion_of, motion_back, back_shift, moved_back, Contains-map, mapped, IsMapped, all_from_members, length_of_member, plus-zeros, minus_itself, minus_and_plus, plus_and_minus, simplex_moved_by, simplex_rearranged}
+use Rattle.lt_geometry.proofs.Matrices.{IsUndone, undone, undone_back, undone_times, undone_identity, inverse_from_undone, apply-plus, apply-times, apply-identity}
+use Rattle.lt_geometry.proofs.Motions.{moved, IsMotion, motion_of, motion_back, back_shift, moved_back, mapped, IsMapped, all_from_members, length_of_member, simplex_moved_by, simplex_rearranged}
 use Rattle.lt_geometry.proofs.Rearranged.{IsRearranged, IsDistinct, rearranged_from, same_length}
 use Rattle.lt_geometry.proofs.Sorting.{sorted, HasSorted, sorted_is_distinct, number_list_cmp_exact}
 pub use Rattle.lt_geometry.specs.Carrying.{AreClasses}
+use Rattle.lt_geometry.proofs.LocalWalk.{plus-forth}
 
 -- the points of s2 are the moved points of s
 pub record IsImage (u : List (List ℤ)) (t : List ℤ) (s s2 : List (List ℤ)) : Type 0 where
@@ -54,7 +56,7 @@ pub record HasClass (d : ℕ) (points : List (List ℤ)) : Type 0 where
 
 translate_forth : (d : ℕ) (vs : List (List ℤ)) (p : List ℤ) → AllOfDimension d vs → length p ≡ d → translate p (translate (scale (negsuc 0) p) vs) ≡ vs
 translate_forth d [] p all lp = refl
-translate_forth d (v ∷ vs) p all lp = rw (minus_and_plus d v p all.0 lp, translate_forth d vs p all.1 lp) refl
+translate_forth d (v ∷ vs) p all lp = rw (plus-forth d v p all.0 lp, translate_forth d vs p all.1 lp) refl
 
 -- each simplex whose points are distinct has a class
 pub has_class : (d : ℕ) (points : List (List ℤ)) → IsSimplex d points → IsDistinct points → HasClass d points
@@ -102,13 +104,13 @@ image_of_class d u s s2 lu h = record {
     to : (x : List ℤ) → IsMapped (λ y. plus y h.shift) s2 (apply u x) → Contains s2 (moved u (scale (negsuc 0) h.shift) x)
     to x m =
         let ly : length m.from ≡ d = length_of_member d s2 m.from h.«class».simplex.points m.member in
-        let e : moved u (scale (negsuc 0) h.shift) x ≡ m.from = ap (λ y. plus y (scale (negsuc 0) h.shift)) (sym m.is) ∙ plus_and_minus d m.from h.shift ly h.dimension in
+        let e : moved u (scale (negsuc 0) h.shift) x ≡ m.from = ap (λ y. plus y (scale (negsuc 0) h.shift)) (sym m.is) ∙ plus-back d m.from h.shift ly h.dimension in
         subst (λ (z : List ℤ). Contains s2 z) (sym e) m.member
 
     from : (y : List ℤ) → Contains s2 y → IsMapped (apply u) s (plus y h.shift) → (x : List ℤ) × Contains s x × (moved u (scale (negsuc 0) h.shift) x ≡ y)
     from y c m =
         let ly : length y ≡ d = length_of_member d s2 y h.«class».simplex.points c in
-        (m.from, m.member, ap (λ z. plus z (scale (negsuc 0) h.shift)) m.is ∙ plus_and_minus d y h.shift ly h.dimension)
+        (m.from, m.member, ap (λ z. plus z (scale (negsuc 0) h.shift)) m.is ∙ plus-back d y h.shift ly h.dimension)
 
 pub class_of_image : (d : ℕ) (u : List (List ℤ)) (t : List ℤ) (s s2 : List (List ℤ)) → length u ≡ d → length t ≡ d → IsClass d s2 → IsImage u t s s2 → IsClassOf d (map (apply u) s) s2
 class_of_image d u t s s2 lu lt c h = record {
@@ -120,7 +122,7 @@ class_of_image d u t s s2 lu lt c h = record {
   where
     to : (y : List ℤ) → IsMapped (apply u) s y → Contains (translate (scale (negsuc 0) t) s2) y
     to y m =
-        let e : plus (moved u t m.from) (scale (negsuc 0) t) ≡ y = plus_and_minus d (apply u m.from) t (length-apply u m.from ∙ lu) lt ∙ m.is in
+        let e : plus (moved u t m.from) (scale (negsuc 0) t) ≡ y = plus-back d (apply u m.from) t (length-apply u m.from ∙ lu) lt ∙ m.is in
         subst (λ (z : List ℤ). Contains (translate (scale (negsuc 0) t) s2) z) e (Contains-translate s2 (scale (negsuc 0) t) (moved u t m.from) (h.to m.from m.member))
 
     from : (y : List ℤ) → IsMapped (λ z. plus z (scale (negsuc 0) t)) s2 y → Contains (map (apply u) s) y
@@ -128,7 +130,7 @@ class_of_image d u t s s2 lu lt c h = record {
       where
         at : ((x : List ℤ) × Contains s x × (moved u t x ≡ m.from)) → Contains (map (apply u) s) y
         at (x, k, e) =
-            let f : apply u x ≡ y = sym (plus_and_minus d (apply u x) t (length-apply u x ∙ lu) lt) ∙ ap (λ z. plus z (scale (negsuc 0) t)) e ∙ m.is in
+            let f : apply u x ≡ y = sym (plus-back d (apply u x) t (length-apply u x ∙ lu) lt) ∙ ap (λ z. plus z (scale (negsuc 0) t)) e ∙ m.is in
             subst (λ (z : List ℤ). Contains (map (apply u) s) z) f (Contains-map (apply u) s x k)
 
 pub distinct_applied : (d : ℕ) (u v : List (List ℤ)) (s : List (List ℤ)) → IsUndone d u v → AllOfDimension d s → IsDistinct s → IsDistinct (map (apply u) s)

@@ -11,7 +11,9 @@ use Rattle.lt_model.proofs.Opposite.{length-zeros, zeros-dot}
 use Rattle.lt_model.proofs.Ring.{var, num, ◌⊕◌, ◌⊗◌, ring}
 use Rattle.lt_model.proofs.Squares.{length-scale, length-plus}
 use Rattle.lt_model.proofs.Vectors.{dot-scale, dot_comm, plus_comm, plus_assoc, add-scale, scale-scale}
-use Rattle.lt_geometry.proofs.Matrices.{dot-apply, length-apply, same_from_dots_at, length-combine_at, IsUndone}
+use Rattle.lt_model.proofs.Points.{length-apply}
+use Rattle.lt_geometry.proofs.Matrices.{dot-apply, same_from_dots_at, length-combine_at, IsUndone}
+use Rattle.lt_geometry.proofs.Reading.{dot-append_both}
 
 -- the numbers of the form that is the product of two linear functions
 abbrev pub products : List ℤ → List ℤ → List ℤ
@@ -27,12 +29,6 @@ induced (r ∷ u) = map (products r) (r ∷ u) ++ induced u
 -- the form Q[U x]
 abbrev pub pulled : List ℤ → List (List ℤ) → List ℤ
 pulled q u = combine q (induced u)
-
-dot-append_pair : (a b c d : List ℤ) → length a ≡ length c → dot (a ++ b) (c ++ d) ≡ dot a c +ℤ dot b d
-dot-append_pair [] b [] d h = omega (arith, ints)
-dot-append_pair [] b (z ∷ c) d h = absurd (omega arith)
-dot-append_pair (y ∷ a) b [] d h = absurd (omega arith)
-dot-append_pair (y ∷ a) b (z ∷ c) d h = rw (dot-append_pair a b c d (omega arith)) (omega (arith, ints))
 
 pub length-squares : (n : ℕ) (x : List ℤ) → length x ≡ n → length (squares x) ≡ numbers_of_form n
 length-squares zero [] l = refl
@@ -63,7 +59,7 @@ dot-products (suc n) (a ∷ l) (b ∷ m) [] hl hm hx = absurd (omega arith)
 dot-products (suc n) (a ∷ l) (b ∷ m) (z ∷ x) hl hm hx =
     let row : List ℤ = plus (scale a (b ∷ m)) (pos 0 ∷ scale b l) in
     let lr : length row ≡ length (scale z (z ∷ x)) = length-row n a b l m (omega arith) (omega arith) ∙ sym hx ∙ sym (length-scale z (z ∷ x)) in
-    let e1 : dot (row ++ products l m) (scale z (z ∷ x) ++ squares x) ≡ dot row (scale z (z ∷ x)) +ℤ dot (products l m) (squares x) = dot-append_pair row (products l m) (scale z (z ∷ x)) (squares x) lr in
+    let e1 : dot (row ++ products l m) (scale z (z ∷ x) ++ squares x) ≡ dot row (scale z (z ∷ x)) +ℤ dot (products l m) (squares x) = dot-append_both row (products l m) (scale z (z ∷ x)) (squares x) lr in
     let e2 : dot row (scale z (z ∷ x)) ≡ z *ℤ dot row (z ∷ x) = dot-scale row z (z ∷ x) in
     let e3 : dot row (z ∷ x) ≡ dot (scale a (b ∷ m)) (z ∷ x) +ℤ dot (pos 0 ∷ scale b l) (z ∷ x) = plus-dot (scale a (b ∷ m)) (pos 0 ∷ scale b l) (z ∷ x) in
     let e4 : dot (scale a (b ∷ m)) (z ∷ x) ≡ a *ℤ (b *ℤ z +ℤ dot m x) = scale-dot a (b ∷ m) (z ∷ x) in
@@ -145,7 +141,7 @@ split (suc n) m (a ∷ q) l =
 
 value_split : (n : ℕ) (a : ℤ) (r s : List ℤ) (y : ℤ) (ys : List ℤ) → length r ≡ n → length ys ≡ n → value ((a ∷ r) ++ s) (y ∷ ys) ≡ y *ℤ (a *ℤ y +ℤ dot r ys) +ℤ value s ys
 value_split n a r s y ys lr ly =
-    let e = dot-append_pair (a ∷ r) s (scale y (y ∷ ys)) (squares ys) (ap suc (lr ∙ sym ly ∙ sym (length-scale y ys))) in
+    let e = dot-append_both (a ∷ r) s (scale y (y ∷ ys)) (squares ys) (ap suc (lr ∙ sym ly ∙ sym (length-scale y ys))) in
     e ∙ ap (λ n. n +ℤ value s ys) (dot-scale (a ∷ r) y (y ∷ ys))
 
 -- forms with the same values are the same

@@ -3,6 +3,7 @@ use Rattle.std.proofs.Common.{List, [], ◌∷◌, ◌++◌, get_or, ◌≡◌, 
 use Rattle.std.proofs.lemmas.Int.{ints, by_lt_z}
 use Rattle.std.proofs.Math.IntN.{ℤ_discrete}
 use Rattle.std.specs.List.{Contains}
+use Rattle.std.proofs.lemmas.List.Elements.{Contains-append_left, Contains-append_right, Contains-append_cases}
 use Rattle.lt_model.proofs.Ring.{ring, var, ◌⊗◌}
 use Rattle.lt_walls.proofs.Sums.{qs}
 use Rattle.lt_model.proofs.Inequalities.{mul_nonneg_z}
@@ -37,23 +38,8 @@ pub record Listing {X : Type 0} (Z Y : X → Type 0) : Type 0 where
   pub sound : (s : X) → Contains all s → Z s
   pub complete : (s : X) → Y s → Contains all s
 
-contains_left : {X : Type 0} → (l r : List X) (s : X) → Contains l s → Contains (l ++ r) s
-contains_left [] r s h = Contains-none s h
-contains_left (x ∷ l) r s h = elim (Contains-cases x l s h) [ inl e ↦ subst (Contains (x ∷ (l ++ r))) e (Contains-head x (l ++ r)) | inr k ↦ Contains-tail x (l ++ r) s (contains_left l r s k) ]
-
-contains_right : {X : Type 0} → (l r : List X) (s : X) → Contains r s → Contains (l ++ r) s
-contains_right [] r s h = h
-contains_right (x ∷ l) r s h = Contains-tail x (l ++ r) s (contains_right l r s h)
-
-contains_split : {X : Type 0} → (l r : List X) (s : X) → Contains (l ++ r) s → Contains l s ⊎ Contains r s
-contains_split [] r s h = inr h
-contains_split (x ∷ l) r s h = elim (Contains-cases x (l ++ r) s h) [
-  | inl e ↦ inl (subst (Contains (x ∷ l)) e (Contains-head x l))
-  | inr k ↦ elim (contains_split l r s k) [ inl a ↦ inl (Contains-tail x l s a) | inr b ↦ inr b ]
-]
-
 both : {X : Type 0} → {Z Y Y' : X → Type 0} → Listing Z Y → Listing Z Y' → Listing Z (λ s. Y s ⊎ Y' s)
-both {X} {Z} {Y} {Y'} a b = record { all = a.all ++ b.all; sound = λ s h. elim (contains_split a.all b.all s h) [ inl k ↦ a.sound s k | inr k ↦ b.sound s k ]; complete = λ s y. elim y [ inl k ↦ contains_left a.all b.all s (a.complete s k) | inr k ↦ contains_right a.all b.all s (b.complete s k) ] }
+both {X} {Z} {Y} {Y'} a b = record { all = a.all ++ b.all; sound = λ s h. elim (Contains-append_cases a.all b.all s h) [ inl k ↦ a.sound s k | inr k ↦ b.sound s k ]; complete = λ s y. elim y [ inl k ↦ Contains-append_left a.all b.all s (a.complete s k) | inr k ↦ Contains-append_right a.all b.all s (b.complete s k) ] }
 
 less : {X : Type 0} → {Z Y Y' : X → Type 0} → Listing Z Y → ((s : X) → Y' s → Y s) → Listing Z Y'
 less a f = record { all = a.all; sound = a.sound; complete = λ s y. a.complete s (f s y) }

@@ -102,7 +102,3 @@ backward d two t a q k h = delaunay_from_paving d q.numbers t (some t k.occupied
 -- local to global, from dimension 2 on
 pub local_from : (d : ℕ) (t : List (List (List ℤ))) (a : List ℤ) → 2 ≤ d → IsDelaunay d a t → IsLocal d t
 local_from d t a two k q l h = backward d two t (record { numbers = a; is = k.positive.numbers }) (record { numbers = q; is = l }) k h
-
--- and back
-pub rises_from : (d : ℕ) (t : List (List (List ℤ))) (a : List ℤ) → 2 ≤ d → IsDelaunay d a t → (n : List ℤ) → IsRegulator d t n → pos 0 <ℤ dot n a
-rises_from d t a two k n r = rises d two (record { numbers = a; is = k.positive.numbers }) t k n r

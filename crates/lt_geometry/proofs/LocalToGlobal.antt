@@ -8,7 +8,7 @@ use Rattle.lt_geometry.proofs.Members.{Placed}
 use Rattle.lt_geometry.proofs.WallLaws.{IsLocal}
 use Rattle.lt_geometry.proofs.Bounds.{setting, every_wall_form_is_definite, one_point_on_ellipsoid}
 use Rattle.lt_geometry.proofs.FlippedSets.{IsFlipped}
-use Rattle.lt_geometry.proofs.ClosedFlips.{flipped_is_closed, flipped_is_delaunay}
+use Rattle.lt_geometry.proofs.ClosedFlips.{flipped_is_delaunay}
 use Rattle.lt_geometry.proofs.LocalForms.{local_from}
 use Rattle.lt_geometry.proofs.Regulators.{positive_at}
 use Rattle.lt_geometry.proofs.Line.{none_in_zero, local_in_one}
@@ -17,7 +17,6 @@ use Rattle.lt_model.specs.Order.{simplex_cmp}
 use Rattle.lt_model.specs.Simplices.{IsExpression, excess}
 use Rattle.lt_model.specs.Forms.{numbers_of_form, IsPositiveDefinite}
 use Rattle.lt_model.specs.Triangulations.{IsDelaunay}
-use Rattle.lt_model.specs.Facets.{IsClosed}
 use Rattle.lt_model.specs.Walls.{IsRegulator, IsWallForm}
 
 -- a form at which all regulators are positive
@@ -43,10 +42,6 @@ one_on_ellipsoid d a w n t s two k wall mem x x' l l' out out' c c' b b' e e' z 
 -- the setting of lt_walls, with nothing left to show
 abbrev pub setting_of : (d : ℕ) (two : 2 ≤ d) (t : List (List (List ℤ))) (q w : Form d) (n : List ℤ) → IsDelaunay d q.numbers t → IsWallForm d t n w.numbers → Tri (space d two) (Placed d t) (IsRegulator d t) (λ m b. dot m b.numbers) n q w
 setting_of d two t q w n k wall = setting d two t q w n k (is_local d q.numbers t k) wall
-
--- the flipped set is closed under facets
-pub flip_is_closed : (d : ℕ) (two : 2 ≤ d) (t : List (List (List ℤ))) (q w : Form d) (n : List ℤ) (k : IsDelaunay d q.numbers t) (wall : IsWallForm d t n w.numbers) (t' : List (List (List ℤ))) → IsFlipped d two t q w n (setting_of d two t q w n k wall) t' → IsClosed d t'
-flip_is_closed d two t q w n k wall t' fl = flipped_is_closed d two t q w n (setting_of d two t q w n k wall) t' fl
 
 -- the flipped set is Delaunay
 pub flip_across : (d : ℕ) (two : 2 ≤ d) (t : List (List (List ℤ))) (q w : Form d) (n : List ℤ) (k : IsDelaunay d q.numbers t) (wall : IsWallForm d t n w.numbers) (t' : List (List (List ℤ))) →

@@ -7,7 +7,7 @@ use Rattle.lt_model.proofs.Integers.{spread}
 use Rattle.lt_model.proofs.Vectors.{dot-plus, dot-scale}
 use Rattle.lt_model.proofs.Squares.{length-scale, length-plus}
 use Rattle.lt_model.proofs.Excess.{dot-combine, same_from_dots, scale-dot, length-translate, excess-moved}
-use Rattle.lt_model.proofs.Walk.{length-combine, IsWeighted, mul-positive}
+use Rattle.lt_model.proofs.Walk.{length-combine, IsWeighted}
 use Rattle.lt_model.proofs.Expressions.{one_expression, total-scale}
 use Rattle.lt_model.proofs.Moved.{translate-back, simplex_moved, translate_all, Contains-translate}
 use Rattle.lt_geometry.proofs.Uniform.{uniform, HasUniform}
@@ -18,12 +18,15 @@ use Rattle.lt_geometry.proofs.Reading.{length-ones}
 use Rattle.lt_geometry.proofs.Walking.{IsAt, Holds, height, walk}
 use Rattle.lt_geometry.proofs.Summed.{HasEach, HasSummed, IsOn, IsWeaklyEmpty, summed}
 use Rattle.lt_model.proofs.Sets.{Contains-head, each_holds, number_list_cmp_total}
-use Rattle.lt_geometry.proofs.Whole.{ascending_translate, same_from_within}
+use Rattle.lt_geometry.proofs.Whole.{same_from_within}
 use Rattle.lt_model.specs.Order.{number_list_cmp, simplex_cmp}
 use Rattle.lt_model.specs.Vectors.{plus, scale, dot, total, combine, zeros, ones}
 use Rattle.lt_model.specs.Forms.{value, IsPositiveDefinite}
 use Rattle.lt_model.specs.Simplices.{AllOfDimension, IsSimplex, IsClass, IsExpression, IsStrictlyEmpty, excess, translate}
 use Rattle.lt_model.specs.Triangulations.{IsDelaunay}
+use Rattle.lt_model.proofs.Translates.{ascending_translate}
+use Rattle.lt_model.proofs.Inequalities.{mul_pos_z}
+use Rattle.lt_geometry.proofs.Closed.{translate-zeros}
 
 pub plus-forth : (d : ℕ) (x p : List ℤ) → length x ≡ d → length p ≡ d → plus (plus x (scale (negsuc 0) p)) p ≡ x
 plus-forth d x p lx lp =
@@ -73,7 +76,7 @@ ones_not_negative (suc n) = (omega (arith, ints), ones_not_negative n)
 pub le_from_multiples : (c a b : ℤ) → pos 0 <ℤ c → (c *ℤ a) ≤ℤ (c *ℤ b) → a ≤ℤ b
 le_from_multiples c a b hc h =
     by_lt_z b a (λ k.
-    let e : pos 0 <ℤ (c *ℤ (a -ℤ b)) = mul-positive c (a -ℤ b) hc (omega (arith, ints)) in
+    let e : pos 0 <ℤ (c *ℤ (a -ℤ b)) = mul_pos_z c (a -ℤ b) hc (omega (arith, ints)) in
     let f : c *ℤ (a -ℤ b) ≡ c *ℤ a -ℤ c *ℤ b = simp spread refl in
     absurd (omega (arith, ints, e, f))) (λ k. k)
 
@@ -94,18 +97,6 @@ zeros-plus (suc d) [] l = absurd (omega arith)
 zeros-plus (suc d) (a ∷ p) l =
     let e : pos 0 +ℤ a ≡ a = omega (arith, ints) in
     rw (e, zeros-plus d p (omega arith)) refl
-
-plus-zeros : (d : ℕ) (p : List ℤ) → length p ≡ d → plus p (zeros d) ≡ p
-plus-zeros zero [] l = refl
-plus-zeros zero (a ∷ p) l = absurd (omega arith)
-plus-zeros (suc d) [] l = absurd (omega arith)
-plus-zeros (suc d) (a ∷ p) l =
-    let e : a +ℤ pos 0 ≡ a = omega (arith, ints) in
-    rw (e, plus-zeros d p (omega arith)) refl
-
-translate-zeros : (d : ℕ) (vs : List (List ℤ)) → AllOfDimension d vs → translate (zeros d) vs ≡ vs
-translate-zeros d [] all = refl
-translate-zeros d (v ∷ vs) all = rw (plus-zeros d v all.0, translate-zeros d vs all.1) refl
 
 first_moved : (vs : List (List ℤ)) (p : List ℤ) → 0 < length vs → get_or (translate p vs) 0 [] ≡ plus (get_or vs 0 []) p
 first_moved [] p h = absurd (omega arith)

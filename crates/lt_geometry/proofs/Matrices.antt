@@ -9,10 +9,7 @@ use Rattle.lt_model.proofs.Flat.{identity_square, times_square}
 use Rattle.lt_model.proofs.Opposite.{length-zeros, zeros-dot}
 use Rattle.lt_model.proofs.Vectors.{dot-plus, dot-scale, dot_comm}
 use Rattle.lt_model.proofs.Walk.{length-combine}
-
-pub length-apply : (u : List (List ℤ)) (x : List ℤ) → length (apply u x) ≡ length u
-length-apply [] x = refl
-length-apply (r ∷ u) x = ap suc (length-apply u x)
+use Rattle.lt_model.proofs.Points.{length-apply}
 
 -- a linear function of an image: the rows of u combined
 pub dot-apply : (w : List ℤ) (u : List (List ℤ)) (x : List ℤ) → dot w (apply u x) ≡ dot (combine w u) x

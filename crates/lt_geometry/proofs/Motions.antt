@@ -15,20 +15,13 @@ use Rattle.lt_model.proofs.Sets.{Contains-head, Contains-tail, Contains-cases, C
 use Rattle.lt_model.proofs.Squares.{length-scale, length-plus}
 use Rattle.lt_model.proofs.Vectors.{dot-plus, dot-scale, plus_comm, plus_assoc}
 use Rattle.lt_model.proofs.Walk.{length-combine}
-use Rattle.lt_geometry.proofs.Matrices.{IsUndone, dot-apply, length-apply, apply-plus, apply-scale, apply-zeros, undone_back}
+use Rattle.lt_model.proofs.Points.{minus_itself, length-apply, plus-zeros}
+use Rattle.lt_geometry.proofs.Matrices.{IsUndone, dot-apply, apply-plus, apply-scale, apply-zeros, undone_back, map-apply_all}
 use Rattle.lt_geometry.proofs.Rearranged.{IsRearranged, rearrange, length-rearrange, dot-rearrange, total-rearrange, length-rearranged}
 
 -- ---- members of mapped lists
 
 module _ {X Y : Type 0} (f : X → Y) where
-  pub Contains-map : (vs : List X) (x : X) → Contains vs x → Contains (map f vs) (f x)
-  Contains-map [] x c = Contains-none x c
-  Contains-map (v ∷ vs) x c =
-      elim (Contains-cases v vs x c) [
-        | inl e ↦ subst (λ (z : X). Contains (map f (v ∷ vs)) (f z)) e (Contains-head (f v) (map f vs))
-        | inr r ↦ Contains-tail (f v) (map f vs) (f x) (Contains-map vs x r)
-      ]
-
   pub record IsMapped (vs : List X) (y : Y) : Type 0 where
     pub from : X
     pub member : Contains vs from
@@ -50,29 +43,6 @@ pub length_of_member : (d : ℕ) (vs : List (List ℤ)) (x : List ℤ) → AllOf
 length_of_member d vs x all c = each_holds (λ v. length v ≡ d) vs x all c
 
 -- ---- zeros and negatives
-
-pub plus-zeros : (d : ℕ) (x : List ℤ) → length x ≡ d → plus x (zeros d) ≡ x
-plus-zeros zero [] l = refl
-plus-zeros zero (a ∷ x) l = absurd (omega arith)
-plus-zeros (suc d) [] l = absurd (omega arith)
-plus-zeros (suc d) (a ∷ x) l =
-    let e : a +ℤ pos 0 ≡ a = omega (arith, ints) in
-    rw (e, plus-zeros d x (omega arith)) refl
-
-pub minus_itself : (d : ℕ) (x : List ℤ) → length x ≡ d → plus x (scale (negsuc 0) x) ≡ zeros d
-minus_itself zero [] l = refl
-minus_itself zero (a ∷ x) l = absurd (omega arith)
-minus_itself (suc d) [] l = absurd (omega arith)
-minus_itself (suc d) (a ∷ x) l =
-    let e : a +ℤ negsuc 0 *ℤ a ≡ pos 0 = omega (arith, ints) in
-    rw (e, minus_itself d x (omega arith)) refl
-
-pub minus_and_plus : (d : ℕ) (x p : List ℤ) → length x ≡ d → length p ≡ d → plus (plus x (scale (negsuc 0) p)) p ≡ x
-minus_and_plus d x p lx lp =
-    plus_assoc x (scale (negsuc 0) p) p ∙ ap (plus x) (plus_comm (scale (negsuc 0) p) p ∙ minus_itself d p lp) ∙ plus-zeros d x lx
-
-pub plus_and_minus : (d : ℕ) (x p : List ℤ) → length x ≡ d → length p ≡ d → plus (plus x p) (scale (negsuc 0) p) ≡ x
-plus_and_minus d x p lx lp = plus_assoc x p (scale (negsuc 0) p) ∙ ap (plus x) (minus_itself d p lp) ∙ plus-zeros d x lx
 
 -- ---- a matrix and a shift
 
@@ -238,16 +208,12 @@ expression_applied d u vs x b c lu some h =
     subst (λ (p : List (List ℤ)). IsExpression p (apply u x) c b) (unmoved d u vs lu)
     (subst (λ (y : List ℤ). IsExpression (map (moved u (zeros d)) vs) y c b) (plus-zeros d (apply u x) (length-apply u x ∙ lu)) (expression_moved_by d u (zeros d) vs x b c lu (length-zeros d) some h))
 
-applied_all : (d : ℕ) (u : List (List ℤ)) (vs : List (List ℤ)) → length u ≡ d → AllOfDimension d (map (apply u) vs)
-applied_all d u [] lu = tt
-applied_all d u (x ∷ vs) lu = (length-apply u x ∙ lu, applied_all d u vs lu)
-
 -- a form that has at each image the value of q has the excess of q
 pub excess_moved_by : (d : ℕ) (q q' : List ℤ) (u : List (List ℤ)) (t : List ℤ) (vs : List (List ℤ)) (x b : List ℤ) (c : ℤ) → length u ≡ d → length t ≡ d → AllOfDimension d vs → length x ≡ d → 0 < length vs →
     ((y : List ℤ) → length y ≡ d → value q' (apply u y) ≡ value q y) → IsExpression vs x c b → excess q' (map (moved u t) vs) (moved u t x) c b ≡ excess q vs x c b
 excess_moved_by d q q' u t vs x b c lu lt all lx some agree h =
     ap (λ (p : List (List ℤ)). excess q' p (moved u t x) c b) (map_moved u t vs)
-    ∙ excess-moved q' b (map (apply u) vs) (apply u x) t c (subst (λ (n : ℕ). AllOfDimension n (map (apply u) vs)) (sym lt) (applied_all d u vs lu)) (length-apply u x ∙ lu ∙ sym lt) (expression_applied d u vs x b c lu some h)
+    ∙ excess-moved q' b (map (apply u) vs) (apply u x) t c (subst (λ (n : ℕ). AllOfDimension n (map (apply u) vs)) (sym lt) (map-apply_all d u vs lu)) (length-apply u x ∙ lu ∙ sym lt) (expression_applied d u vs x b c lu some h)
     ∙ (λ i. c *ℤ agree x lx i -ℤ dot b (values vs all i))
   where
     values : (vs : List (List ℤ)) → AllOfDimension d vs → map (value q') (map (apply u) vs) ≡ map (value q) vs

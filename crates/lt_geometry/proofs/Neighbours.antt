@@ -50,7 +50,7 @@ cross_comm [] (b ∷ y) = refl
 cross_comm (a ∷ x) [] = refl
 cross_comm (a ∷ x) (b ∷ y) = ap₂ (λ (l m : List ℤ). l ++ m) (plus_comm (scale a (b ∷ y)) (scale b (a ∷ x))) (cross_comm x y)
 
-polar-zeros : (d : ℕ) (q z : List ℤ) → length z ≡ d → polar q (zeros d) z ≡ pos 0
+pub polar-zeros : (d : ℕ) (q z : List ℤ) → length z ≡ d → polar q (zeros d) z ≡ pos 0
 polar-zeros d q z lz =
     let g = gradient q z in
     g.1 (zeros d) (length-zeros d ∙ sym lz) ∙ dot_comm g.0 (zeros d) ∙ zeros-dot d g.0

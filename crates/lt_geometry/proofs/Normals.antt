@@ -1,5 +1,5 @@
 -- The excess as a linear function of the form.
-use Rattle.std.proofs.Common.{◌≡◌, ℕ, zero, suc, ℤ, negsuc, ◌<◌, ap, arith, sym, ◌∙◌, refl, List, [], ◌∷◌, length, length-append, map}
+use Rattle.std.proofs.Common.{◌≡◌, ℕ, ℤ, negsuc, ◌<◌, ap, arith, sym, ◌∙◌, List, [], ◌∷◌, length, map}
 use Rattle.std.proofs.lemmas.Int.{ints}
 use Rattle.lt_model.proofs.Squares.{length-scale, length-plus}
 use Rattle.lt_model.proofs.Vectors.{dot-plus, dot-scale, dot_comm}
@@ -10,6 +10,7 @@ use Rattle.lt_model.specs.Vectors.{scale, dot, combine}
 use Rattle.lt_model.specs.Forms.{squares, value, numbers_of_form}
 use Rattle.lt_model.specs.Simplices.{AllOfDimension, excess}
 use Rattle.lt_model.specs.Walls.{excess_normal}
+use Rattle.lt_geometry.proofs.Induced.{length-squares}
 
 pub normal_dot : (q : List ℤ) (vs : List (List ℤ)) (x : List ℤ) (c : ℤ) (b : List ℤ) → dot q (excess_normal vs x c b) ≡ excess q vs x c b
 normal_dot q vs x c b =
@@ -22,13 +23,7 @@ normal_dot q vs x c b =
 pub normal_value : (q : List ℤ) (vs : List (List ℤ)) (x : List ℤ) (c : ℤ) (b : List ℤ) → dot (excess_normal vs x c b) q ≡ excess q vs x c b
 normal_value q vs x c b = dot_comm (excess_normal vs x c b) q ∙ normal_dot q vs x c b
 
-pub length-squares : (d : ℕ) (x : List ℤ) → length x ≡ d → length (squares x) ≡ numbers_of_form d
-length-squares zero [] l = refl
-length-squares zero (a ∷ x) l = absurd (omega arith)
-length-squares (suc d) [] l = absurd (omega arith)
-length-squares (suc d) (a ∷ x) l = omega (arith, length-append (scale a x) (squares x), length-scale a x, length-squares d x (omega arith))
-
-all_squares : (d : ℕ) (vs : List (List ℤ)) → AllOfDimension d vs → AllOfDimension (numbers_of_form d) (map squares vs)
+pub all_squares : (d : ℕ) (vs : List (List ℤ)) → AllOfDimension d vs → AllOfDimension (numbers_of_form d) (map squares vs)
 all_squares d [] h = tt
 all_squares d (v ∷ vs) h = (length-squares d v h.0, all_squares d vs h.1)
 

@@ -18,9 +18,11 @@ use Rattle.lt_model.specs.Vectors.{plus, minus, scale, dot, total, combine, zero
 use Rattle.lt_model.specs.Forms.{squares, value}
 use Rattle.lt_model.specs.Simplices.{IsSimplex, IsClass, IsExpression, IsStrictlyEmpty, excess}
 use Rattle.lt_model.specs.Facets.{number_at}
-use Rattle.lt_geometry.proofs.Paths.{unit_own, unit_other, same_or_not}
-use Rattle.lt_geometry.proofs.Closed.{get_dimension, total_unit}
-use Rattle.lt_geometry.proofs.Unique.{weighted, expressed, vertex_expression}
+use Rattle.lt_model.proofs.Flat.{number_at-unit_same}
+use Rattle.lt_model.proofs.Points.{vertex_expression, weighted, total-unit}
+use Rattle.lt_geometry.proofs.Paths.{unit_other, same_or_not}
+use Rattle.lt_geometry.proofs.Closed.{get_dimension}
+use Rattle.lt_geometry.proofs.Unique.{expressed}
 
 -- ---- parity
 
@@ -105,7 +107,7 @@ turned_expression d vs i j x w c b s hi hj lw e is = record {
 
     sums : total (turned (length vs) i j c b) ≡ c
     sums =
-        rw (total-plus (scale (negsuc 0) b) (scale c (plus (unit (length vs) i) (unit (length vs) j))), total-scale (negsuc 0) b, total-scale c (plus (unit (length vs) i) (unit (length vs) j)), total-plus (unit (length vs) i) (unit (length vs) j), total_unit (length vs) i hi, total_unit (length vs) j hj, e.sum)
+        rw (total-plus (scale (negsuc 0) b) (scale c (plus (unit (length vs) i) (unit (length vs) j))), total-scale (negsuc 0) b, total-scale c (plus (unit (length vs) i) (unit (length vs) j)), total-plus (unit (length vs) i) (unit (length vs) j), total-unit (length vs) i hi, total-unit (length vs) j hj, e.sum)
         (ring (c ∷ []) (num (negsuc 0) ⊗ var 0 ⊕ var 0 ⊗ (num (pos 1) ⊕ num (pos 1))) (var 0) tt)
 
 -- where two points add up to the vertices i and j, and are vertices, the one is the vertex i or j
@@ -130,10 +132,10 @@ one_of_two d vs i j a b s hi hj ha hb is =
     cases (inl e) y z h k = inl e
     cases (inr x) (inl e) z h k = inr e
     cases (inr x) (inr y) (inl e) h k =
-        let f : number_at a (unit (length vs) b) ≡ pos 1 = ap (λ (m : ℕ). number_at a (unit (length vs) m)) (sym e) ∙ unit_own (length vs) a ha in
-        absurd (omega (arith, ints, h, k, f, unit_own (length vs) a ha, unit_other (length vs) i a x, unit_other (length vs) j a y))
+        let f : number_at a (unit (length vs) b) ≡ pos 1 = ap (λ (m : ℕ). number_at a (unit (length vs) m)) (sym e) ∙ number_at-unit_same (length vs) a ha in
+        absurd (omega (arith, ints, h, k, f, number_at-unit_same (length vs) a ha, unit_other (length vs) i a x, unit_other (length vs) j a y))
     cases (inr x) (inr y) (inr z) h k =
-        absurd (omega (arith, ints, h, k, unit_other (length vs) b a z, unit_own (length vs) a ha, unit_other (length vs) i a x, unit_other (length vs) j a y))
+        absurd (omega (arith, ints, h, k, unit_other (length vs) b a z, number_at-unit_same (length vs) a ha, unit_other (length vs) i a x, unit_other (length vs) j a y))
 
 -- ---- a vertex against the points of its parity
 

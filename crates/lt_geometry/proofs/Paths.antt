@@ -13,24 +13,20 @@ use Rattle.lt_model.proofs.Ring.{ring, var, ◌⊕◌, ◌⊖◌, ◌⊗◌}
 use Rattle.lt_model.proofs.Squares.{length-plus}
 use Rattle.lt_model.proofs.Vectors.{dot-scale}
 use Rattle.lt_model.proofs.Excess.{dot-combine, dot-constant}
-use Rattle.lt_model.proofs.Walk.{number_at-plus, number_at-scale}
+use Rattle.lt_model.proofs.Walk.{number_at-plus}
 use Rattle.lt_model.proofs.Opposite.{length-unit, length-zeros}
 use Rattle.lt_model.proofs.Expressions.{number_at-zeros}
 use Rattle.lt_model.proofs.Sets.{Contains-head, Contains-tail, Contains-cases, Contains-none, number_list_cmp_total}
-use Rattle.lt_model.specs.Vectors.{plus, scale, dot, total, combine, zeros, unit}
+use Rattle.lt_model.specs.Vectors.{plus, dot, total, zeros, unit}
 use Rattle.lt_model.specs.Forms.{value}
 use Rattle.lt_model.specs.Simplices.{AllOfDimension, AreIndependent, IsClass, IsExpression, IsStrictlyEmpty, excess}
 use Rattle.lt_model.specs.Facets.{number_at}
 use Rattle.lt_model.specs.Principal.{IsOrder, path_from, principal_class, principal_rows}
+use Rattle.lt_model.proofs.Flat.{number_at-combine, number_at-unit_same}
 use Rattle.lt_geometry.proofs.Places.{AreDifferent, order_whole}
 use Rattle.lt_geometry.proofs.Reading.{read, excess_of, excesses, slopes, value_read, slopes_linear, step_zero, step_not_negative, row_not_negative, excesses_not_negative}
 
 -- ---- numbers of unit vectors
-
-pub unit_own : (d k : ℕ) → k < d → number_at k (unit d k) ≡ pos 1
-unit_own zero k h = absurd (omega arith)
-unit_own (suc d) zero h = refl
-unit_own (suc d) (suc k) h = unit_own d k (omega arith)
 
 pub unit_other : (d k j : ℕ) → j ≢ k → number_at j (unit d k) ≡ pos 0
 unit_other zero k j n = refl
@@ -40,7 +36,7 @@ unit_other (suc d) (suc k) zero n = refl
 unit_other (suc d) (suc k) (suc j) n = unit_other d k j (λ e. n (ap suc e))
 
 pub step_own : (d k : ℕ) (u : List ℤ) → k < d → number_at k (plus u (unit d k)) ≡ number_at k u +ℤ pos 1
-step_own d k u h = number_at-plus k u (unit d k) ∙ ap (λ n. number_at k u +ℤ n) (unit_own d k h)
+step_own d k u h = number_at-plus k u (unit d k) ∙ ap (λ n. number_at k u +ℤ n) (number_at-unit_same d k h)
 
 pub step_other : (d k j : ℕ) (u : List ℤ) → j ≢ k → number_at j (plus u (unit d k)) ≡ number_at j u
 step_other d k j u n = number_at-plus j u (unit d k) ∙ ap (λ m. number_at j u +ℤ m) (unit_other d k j n) ∙ (omega (arith, ints))
@@ -120,14 +116,9 @@ independent_path d u (k ∷ p) (a ∷ b) h lb sum none =
     let rest : b ≡ zeros (length path) = independent_path d next p b (free_next d k u p h) lb' tail_sum (λ j. omega (arith, ints, none j, ap (λ n. n *ℤ number_at j u) first ∙ zero_mul_z (number_at j u))) in
     ap₂ (λ (x : ℤ) (l : List ℤ). x ∷ l) first rest
 
-number_of_combination : (j : ℕ) (b : List ℤ) (vs : List (List ℤ)) → number_at j (combine b vs) ≡ dot b (map (number_at j) vs)
-number_of_combination j [] vs = refl
-number_of_combination j (a ∷ b) [] = refl
-number_of_combination j (a ∷ b) (v ∷ vs) = number_at-plus j (scale a v) (combine b vs) ∙ ap₂ (λ (x y : ℤ). x +ℤ y) (number_at-scale j a v) (number_of_combination j b vs)
-
 pub path_independent : (d : ℕ) (u : List ℤ) (p : List ℕ) → IsFree d u p → AreIndependent d (path_from d u p)
 path_independent d u p h b lb sum none =
-    independent_path d u p b h lb sum (λ j. sym (number_of_combination j b (path_from d u p)) ∙ ap (number_at j) none ∙ number_at-zeros d j)
+    independent_path d u p b h lb sum (λ j. sym (number_at-combine j b (path_from d u p)) ∙ ap (number_at j) none ∙ number_at-zeros d j)
 
 -- ---- ascending
 

@@ -93,7 +93,7 @@ pub record IsWhole (d : ℕ) (p : List ℕ) : Type 0 where
   pub below : (k : ℕ) → Contains p k → k < d
   pub sums : (f : ℕ → ℤ) → total (map f p) ≡ sum_below d f
 
-shorter : (d i : ℕ) (p : List ℕ) → IsAt p i d → IsOrder (suc d) p → IsOrder d (without i p)
+pub shorter : (d i : ℕ) (p : List ℕ) → IsAt p i d → IsOrder (suc d) p → IsOrder d (without i p)
 shorter d i p h o = record {
   count = omega (arith, length-without i p (place_below p i d h), o.count);
   each = λ j l. left_over p i d j h (omega arith) (o.each j (omega arith));

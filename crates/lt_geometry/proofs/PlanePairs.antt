@@ -13,9 +13,9 @@ use Rattle.lt_model.proofs.Vectors.{dot-scale}
 use Rattle.lt_model.proofs.Squares.{length-scale}
 use Rattle.lt_model.proofs.Excess.{scale-dot}
 use Rattle.lt_model.proofs.Expressions.{one_expression}
+use Rattle.lt_model.proofs.Points.{weighted, scale-one}
 use Rattle.lt_geometry.specs.Plane.{point, left_class, right_class, plane, diagonal_normal, upright_normal, level_normal}
-use Rattle.lt_geometry.proofs.WalkEnds.{scale-one}
-use Rattle.lt_geometry.proofs.Unique.{one_neighbour, weighted}
+use Rattle.lt_geometry.proofs.Unique.{one_neighbour}
 use Rattle.lt_geometry.proofs.Primitive.{same_primitive, primitive_from_one}
 use Rattle.lt_geometry.proofs.Neighbours.{principal_paving}
 use Rattle.lt_geometry.proofs.Normals.{normal_dot, length-normal}

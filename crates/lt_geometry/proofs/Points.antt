@@ -13,6 +13,7 @@ use Rattle.lt_model.specs.Forms.{squares, value, cross, polar, numbers_of_form}
 use Rattle.lt_model.proofs.Vectors.{dot-scale, plus_comm, value-plus, value-scale}
 use Rattle.lt_model.proofs.Squares.{value-sum, value-difference, cross-scale, squares-scale, length-scale, length-plus}
 use Rattle.lt_model.proofs.Excess.{gradient, dot-nil, plus-dot, scale-dot}
+use Rattle.lt_geometry.proofs.Reading.{dot-append_both}
 
 abbrev pub Vec : ℕ → Type 0
 Vec zero = Unit {0}
@@ -101,7 +102,7 @@ unfolding lin
 lin-same [] h k e = refl
 lin-same (a ∷ g) h k e = ap₂ (λ y z. a *ℤ y +ℤ z) (e zero) (lin-same g (λ j. h (suc j)) (λ j. k (suc j)) (λ j. e (suc j)))
 
-lin-zeros : (g : List ℤ) → lin g (λ j. pos 0) ≡ pos 0
+pub lin-zeros : (g : List ℤ) → lin g (λ j. pos 0) ≡ pos 0
 unfolding lin
 lin-zeros [] = refl
 lin-zeros (a ∷ g) = ap (λ z. a *ℤ pos 0 +ℤ z) (lin-zeros g) ∙ ring (a ∷ []) (var 0 ⊗ num (pos 0) ⊕ num (pos 0)) (num (pos 0)) tt
@@ -193,12 +194,6 @@ product [] ms = []
 product (l ∷ ls) [] = []
 product (l ∷ ls) (m ∷ ms) = ((l *ℤ m) ∷ plus (scale l ms) (scale m ls)) ++ product ls ms
 
-dot-both : (a b c e : List ℤ) → length a ≡ length c → dot (a ++ b) (c ++ e) ≡ dot a c +ℤ dot b e
-dot-both [] b [] e h = omega (arith, ints)
-dot-both [] b (x ∷ c) e h = absurd (omega arith)
-dot-both (y ∷ a) b [] e h = absurd (omega arith)
-dot-both (y ∷ a) b (x ∷ c) e h = ap (λ z. y *ℤ x +ℤ z) (dot-both a b c e (omega arith)) ∙ omega (arith, ints)
-
 pub length-product : (d : ℕ) (l m : List ℤ) → length l ≡ d → length m ≡ d → length (product l m) ≡ numbers_of_form d
 unfolding product
 length-product zero [] ms h k = refl
@@ -218,7 +213,7 @@ product-value zero (l ∷ ls) ms x h k = absurd (omega arith)
 product-value (suc d) [] ms x h k = absurd (omega arith)
 product-value (suc d) (l ∷ ls) [] x h k = absurd (omega arith)
 product-value (suc d) (l ∷ ls) (m ∷ ms) x h k =
-    dot-both ((l *ℤ m) ∷ plus (scale l ms) (scale m ls)) (product ls ms) (scale z (z ∷ zs)) (squares zs) (ap suc (g ∙ sym (length-scale z zs ∙ length-list d (x.1))))
+    dot-append_both ((l *ℤ m) ∷ plus (scale l ms) (scale m ls)) (product ls ms) (scale z (z ∷ zs)) (squares zs) (ap suc (g ∙ sym (length-scale z zs ∙ length-list d (x.1))))
     ∙ ap₂ (λ u v. (l *ℤ m) *ℤ (z *ℤ z) +ℤ u +ℤ v) (plus-dot (scale l ms) (scale m ls) (scale z zs) ∙ ap₂ (λ u v. u +ℤ v) (scale-dot l ms (scale z zs) ∙ ap (λ u. l *ℤ u) (dot-scale ms z zs)) (scale-dot m ls (scale z zs) ∙ ap (λ u. m *ℤ u) (dot-scale ls z zs))) (product-value d ls ms (x.1) e f)
     ∙ ring (l ∷ m ∷ z ∷ (dot ls zs) ∷ (dot ms zs) ∷ []) (var 0 ⊗ var 1 ⊗ (var 2 ⊗ var 2) ⊕ (var 0 ⊗ (var 2 ⊗ var 4) ⊕ var 1 ⊗ (var 2 ⊗ var 3)) ⊕ var 3 ⊗ var 4) ((var 0 ⊗ var 2 ⊕ var 3) ⊗ (var 1 ⊗ var 2 ⊕ var 4)) tt
   where

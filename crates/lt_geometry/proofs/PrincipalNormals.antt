@@ -18,12 +18,15 @@ use Rattle.lt_model.specs.Facets.{number_at, without, IsNeighbour}
 use Rattle.lt_model.specs.Walls.{excess_normal, IsPair, IsRegulator, IsFacet}
 use Rattle.lt_geometry.specs.Paving.{IsPaving}
 use Rattle.lt_model.specs.Principal.{IsOrder, IsPrincipal, principal_class, principal_rows}
+use Rattle.lt_model.proofs.Flat.{number_at-unit_same}
+use Rattle.lt_model.proofs.Points.{weighted, total-unit}
+use Rattle.lt_model.proofs.Inequalities.{natural}
 use Rattle.lt_geometry.specs.Principal.{pair_normal, own_normal, IsPrincipalNormal}
 use Rattle.lt_geometry.proofs.Places.{IsAt, find, place_below, either_there}
-use Rattle.lt_geometry.proofs.Paths.{unit_own, unit_other, same_or_not}
-use Rattle.lt_geometry.proofs.Closed.{three, three-dot, IsThird, third_expression, total_unit, length-rows}
+use Rattle.lt_geometry.proofs.Paths.{unit_other, same_or_not}
+use Rattle.lt_geometry.proofs.Closed.{three, three-dot, IsThird, third_expression, length-rows}
 use Rattle.lt_geometry.proofs.Neighbours.{HasNeighbour, has_neighbour, first, middle, down_from, down_order, principal_paving}
-use Rattle.lt_geometry.proofs.Unique.{one_neighbour, weighted}
+use Rattle.lt_geometry.proofs.Unique.{one_neighbour}
 use Rattle.lt_geometry.proofs.Primitive.{same_primitive, primitive_from_one}
 pub use Rattle.lt_geometry.proofs.Normals.{normal_dot, length-normal}
 use Rattle.lt_geometry.proofs.Products.{product_form, length-product, less_square, pair_at_less, own_at_less, pair_at, length-pair, length-own, pair_one, own_one}
@@ -67,10 +70,6 @@ pair_excess d t q s i n c b simplex h e =
         let own : c *ℤ (pos 1 *ℤ w -ℤ f) ≡ c *ℤ w -ℤ c *ℤ f = ring (c ∷ w ∷ f ∷ []) (var 0 ⊗ (num (pos 1) ⊗ var 1 ⊖ var 2)) (var 0 ⊗ var 1 ⊖ var 0 ⊗ var 2) tt in
         let k : c *ℤ (pos 1 *ℤ w -ℤ f) ≡ c *ℤ n = ap (λ x. c *ℤ x) v in
         omega (arith, ints, own, k, g)
-
-natural : (c : ℤ) → pos 0 <ℤ c → (m : ℕ) × (c ≡ pos m) × (0 < m)
-natural (pos m) h = (m, refl, omega (arith, ints))
-natural (negsuc m) h = absurd (omega (arith, ints))
 
 pub regulator_stated : (d : ℕ) (t : List (List (List ℤ))) → 2 ≤ d → IsPrincipal d t → (n : List ℤ) → IsRegulator d t n → IsPrincipalNormal d n
 regulator_stated d t h pr n (s, w, c, b, pair) =
@@ -170,9 +169,6 @@ length-less d l ll =
     let e : length (scale (negsuc 0) (product_form l l)) ≡ numbers_of_form d = length-scale (negsuc 0) (product_form l l) ∙ length-product d l l ll ll in
     length-plus (principal_rows d d) (scale (negsuc 0) (product_form l l)) (length-rows d d ∙ sym e) ∙ length-rows d d
 
-positive_two : (x : ℤ) → x ≡ pos 2 +ℤ pos 2 *ℤ (pos 0) → pos 0 <ℤ x
-positive_two x e = omega (arith, ints, e)
-
 -- for - a_kl: the form less (x_k - x_l)^2
 abbrev pub apart : ℕ → ℕ → ℕ → List ℤ
 apart d k l = plus (unit d k) (scale (negsuc 0) (unit d l))
@@ -187,13 +183,13 @@ pub apart_other : (d k l i : ℕ) → i ≢ k → i ≢ l → number_at i (apart
 apart_other d k l i n m = omega (arith, ints, apart_number d k l i, unit_other d k i n, unit_other d l i m)
 
 apart_first : (d k l : ℕ) → k < d → k ≢ l → number_at k (apart d k l) ≡ pos 1
-apart_first d k l h n = omega (arith, ints, apart_number d k l k, unit_own d k h, unit_other d l k n)
+apart_first d k l h n = omega (arith, ints, apart_number d k l k, number_at-unit_same d k h, unit_other d l k n)
 
 apart_second : (d k l : ℕ) → l < d → k ≢ l → number_at l (apart d k l) ≡ negsuc 0
-apart_second d k l h n = omega (arith, ints, apart_number d k l l, unit_own d l h, unit_other d k l (λ e. n (sym e)))
+apart_second d k l h n = omega (arith, ints, apart_number d k l l, number_at-unit_same d l h, unit_other d k l (λ e. n (sym e)))
 
 pub apart_total : (d k l : ℕ) → k < d → l < d → total (apart d k l) ≡ pos 0
-apart_total d k l hk hl = omega (arith, ints, total-plus (unit d k) (scale (negsuc 0) (unit d l)), total-scale (negsuc 0) (unit d l), total_unit d k hk, total_unit d l hl)
+apart_total d k l hk hl = omega (arith, ints, total-plus (unit d k) (scale (negsuc 0) (unit d l)), total-scale (negsuc 0) (unit d l), total-unit d k hk, total-unit d l hl)
 
 pub pair_zero : (d k l : ℕ) → k < l → l < d → dot (pair_normal d k l) (less_square d (apart d k l)) ≡ pos 0
 pair_zero d k l lt hl =
@@ -227,7 +223,7 @@ pair_others d k l lt hl m (inl (i, j, le, hj, e)) n =
     cases (inr a) (inr b) c = left (apart_other d k l i a b)
 
 pub own_zero : (d k : ℕ) → k < d → dot (own_normal d k) (less_square d (unit d k)) ≡ pos 0
-own_zero d k h = own_at_less d k (unit d k) (length-unit d k) h ∙ (rw (total_unit d k h, unit_own d k h) refl)
+own_zero d k h = own_at_less d k (unit d k) (length-unit d k) h ∙ (rw (total-unit d k h, number_at-unit_same d k h) refl)
 
 pub own_others : (d k : ℕ) → k < d → (m : List ℤ) → IsPrincipalNormal d m → m ≢ own_normal d k → dot m (less_square d (unit d k)) ≡ pos 2
 own_others d k h m (inr (i, hi, e)) n =

@@ -11,10 +11,11 @@ use Rattle.lt_model.specs.Vectors.{plus, scale, dot, total, unit, ones}
 use Rattle.lt_model.specs.Forms.{squares, value, cross, polar, numbers_of_form}
 use Rattle.lt_model.specs.Facets.{number_at}
 use Rattle.lt_model.specs.Principal.{principal_rows}
+use Rattle.lt_model.proofs.Flat.{number_at-unit_same}
+use Rattle.lt_model.proofs.Points.{total-unit}
 use Rattle.lt_geometry.specs.Principal.{pair_normal, own_normal}
 use Rattle.lt_geometry.proofs.Reading.{dot-append_both, length-ones, ones-dot, rows_value}
-use Rattle.lt_geometry.proofs.Paths.{unit_own, unit_other}
-use Rattle.lt_geometry.proofs.Closed.{total_unit}
+use Rattle.lt_geometry.proofs.Paths.{unit_other}
 use Rattle.lt_geometry.proofs.Neighbours.{number_at-ones}
 
 -- the form whose value is the product of the values of two linear functions
@@ -143,15 +144,15 @@ pair_at_less d i j l ll hi hj n =
     let e1 : dot (unit d i) (unit d j) ≡ pos 0 = units_dot d i j ∙ unit_other d j i n in
     let e2 : dot l (unit d i) ≡ number_at i l = dot_comm l (unit d i) ∙ unit-dot d i l ll in
     let e3 : dot l (unit d j) ≡ number_at j l = dot_comm l (unit d j) ∙ unit-dot d j l ll in
-    pair_at d i j (less_square d l) ∙ (rw (less_polar d l (unit d i) (unit d j) ll (length-unit d i) (length-unit d j), e1, e2, e3, total_unit d i hi, total_unit d j hj)
+    pair_at d i j (less_square d l) ∙ (rw (less_polar d l (unit d i) (unit d j) ll (length-unit d i) (length-unit d j), e1, e2, e3, total-unit d i hi, total-unit d j hj)
     (ring (pos d ∷ number_at i l ∷ number_at j l ∷ []) (neg (num (pos 2) ⊗ ((var 0 ⊕ num (pos 1)) ⊗ num (pos 0)) ⊖ num (pos 2) ⊗ (num (pos 1) ⊗ num (pos 1)) ⊖ num (pos 2) ⊗ (var 1 ⊗ var 2))) (num (pos 2) ⊕ num (pos 2) ⊗ (var 1 ⊗ var 2)) tt))
 
 pub own_at_less : (d i : ℕ) (l : List ℤ) → length l ≡ d → i < d → dot (own_normal d i) (less_square d l) ≡ pos 2 -ℤ pos 2 *ℤ (total l *ℤ number_at i l)
 own_at_less d i l ll hi =
-    let e1 : dot (ones d) (unit d i) ≡ pos 1 = ones-dot d (unit d i) (length-unit d i) ∙ total_unit d i hi in
+    let e1 : dot (ones d) (unit d i) ≡ pos 1 = ones-dot d (unit d i) (length-unit d i) ∙ total-unit d i hi in
     let e2 : dot l (ones d) ≡ total l = dot_comm l (ones d) ∙ ones-dot d l ll in
     let e3 : dot l (unit d i) ≡ number_at i l = dot_comm l (unit d i) ∙ unit-dot d i l ll in
-    own_at d i (less_square d l) ∙ (rw (less_polar d l (ones d) (unit d i) ll (length-ones d) (length-unit d i), e1, e2, e3, total_unit d i hi, total_ones d)
+    own_at d i (less_square d l) ∙ (rw (less_polar d l (ones d) (unit d i) ll (length-ones d) (length-unit d i), e1, e2, e3, total-unit d i hi, total_ones d)
     (ring (pos d ∷ total l ∷ number_at i l ∷ []) (num (pos 2) ⊗ ((var 0 ⊕ num (pos 1)) ⊗ num (pos 1)) ⊖ num (pos 2) ⊗ (var 0 ⊗ num (pos 1)) ⊖ num (pos 2) ⊗ (var 1 ⊗ var 2)) (num (pos 2) ⊖ num (pos 2) ⊗ (var 1 ⊗ var 2)) tt))
 
 -- ---- a form at which the normal is 1 or -1
@@ -160,8 +161,8 @@ pub pair_one : (d i j : ℕ) → i < d → j < d → i ≢ j → dot (product_fo
 pair_one d i j hi hj n =
     let q = product_form (unit d i) (unit d j) in
     let e = product_polar (unit d i) (unit d j) (unit d i) (unit d j) refl (length-unit d j ∙ sym (length-unit d i)) (length-unit d i ∙ sym (length-unit d j)) in
-    let a : dot (unit d i) (unit d i) ≡ pos 1 = units_dot d i i ∙ unit_own d i hi in
-    let b : dot (unit d j) (unit d j) ≡ pos 1 = units_dot d j j ∙ unit_own d j hj in
+    let a : dot (unit d i) (unit d i) ≡ pos 1 = units_dot d i i ∙ number_at-unit_same d i hi in
+    let b : dot (unit d j) (unit d j) ≡ pos 1 = units_dot d j j ∙ number_at-unit_same d j hj in
     let c : dot (unit d i) (unit d j) ≡ pos 0 = units_dot d i j ∙ unit_other d j i n in
     let f : polar q (unit d i) (unit d j) ≡ pos 1 *ℤ pos 1 +ℤ pos 0 *ℤ dot (unit d j) (unit d i) = e ∙ (rw (a, b, c) refl) in
     dot-scale q (negsuc 0) (cross (unit d i) (unit d j)) ∙ (rw f (ring (dot (unit d j) (unit d i) ∷ []) (num (negsuc 0) ⊗ (num (pos 1) ⊗ num (pos 1) ⊕ num (pos 0) ⊗ var 0)) (num (negsuc 0)) tt))
@@ -171,7 +172,7 @@ own_one d i j hi hj n =
     let q = product_form (unit d i) (unit d j) in
     let lo = length-ones d in
     let e = product_polar (unit d i) (unit d j) (ones d) (unit d i) (length-unit d i ∙ sym lo) (length-unit d j ∙ sym lo) (lo ∙ sym (length-unit d i)) in
-    let a : dot (unit d i) (unit d i) ≡ pos 1 = units_dot d i i ∙ unit_own d i hi in
+    let a : dot (unit d i) (unit d i) ≡ pos 1 = units_dot d i i ∙ number_at-unit_same d i hi in
     let b : dot (unit d j) (ones d) ≡ pos 1 = unit-dot d j (ones d) lo ∙ number_at-ones d j hj in
     let c : dot (unit d j) (unit d i) ≡ pos 0 = units_dot d j i ∙ unit_other d i j (λ e. n (sym e)) in
     e ∙ (rw (a, b, c) (ring (dot (unit d i) (ones d) ∷ []) (var 0 ⊗ num (pos 0) ⊕ num (pos 1) ⊗ num (pos 1)) (num (pos 1)) tt))

@@ -1,7 +1,7 @@
 -- Lists in another order, and the numbers that go with them.
-use Rattle.std.proofs.lemmas.List.Elements.{Contains-get_or}
+use Rattle.std.proofs.lemmas.List.Elements.{Contains-get_or, Contains-append_cases}
 use Rattle.std.proofs.lemmas.List.{get_or_default}
-use Rattle.std.proofs.Common.{◌≡◌, ◌≢◌, ℕ, zero, suc, ℤ, pos, ◌+ℤ◌, ◌*ℤ◌, ◌<◌, ◌≤◌, refl, ap, arith, sym, ◌∙◌, subst, List, [], ◌∷◌, length, map, get_or, inl, inr, ◌⊎◌}
+use Rattle.std.proofs.Common.{◌≡◌, ◌≢◌, ℕ, zero, suc, ℤ, pos, ◌+ℤ◌, ◌*ℤ◌, ◌<◌, ◌≤◌, refl, ap, arith, sym, ◌∙◌, subst, List, [], ◌∷◌, length, map, get_or, inl, inr, ◌⊎◌, ◌++◌}
 use Rattle.std.proofs.lemmas.Int.{ints}
 use Rattle.std.specs.List.{Contains}
 use Rattle.std.specs.List.Sorted.{IsPermutation}
@@ -49,6 +49,13 @@ module _ {X : Type 0} where
   distinct_without [] k d = tt
   distinct_without (x ∷ xs) zero d = d.1
   distinct_without (x ∷ xs) (suc k) d = (λ c. d.0 (Contains-with xs k x c), distinct_without xs k d.1)
+
+  pub distinct_append : (xs ys : List X) → IsDistinct xs → IsDistinct ys → ((x : X) → Contains xs x → Contains ys x → ⊥) → IsDistinct (xs ++ ys)
+  distinct_append [] ys h k apart = k
+  distinct_append (x ∷ xs) ys h k apart = (
+    λ c. elim (Contains-append_cases xs ys x c) [ inl l ↦ h.0 l | inr r ↦ apart x (Contains-head x xs) r ],
+    distinct_append xs ys h.1 k (λ y l r. apart y (Contains-tail x xs y l) r),
+  )
 
   pub same_place : (xs : List X) (i k : ℕ) (a : X) → IsDistinct xs → i < length xs → k < length xs → get_or xs i a ≡ get_or xs k a → i ≡ k
   same_place [] i k a d hi hk e = absurd (omega arith)
@@ -131,10 +138,6 @@ module _ {X : Type 0} (e : X) where
       (λ x m. Contains-without xs c.0 x e (h x (Contains-tail y ys x m)) (λ f. d.0 (subst (λ (z : X). Contains ys z) (sym f ∙ is) m)))
       in
       (c.0, c.1, is, rest)
-
-  pub length-arranged : (xs ys : List X) → IsArranged xs ys → length ys ≡ length xs
-  length-arranged xs [] r = sym r
-  length-arranged xs (y ∷ ys) r = ap suc (length-arranged (without r.0 xs) ys r.3) ∙ length-without r.0 xs r.1
 
   pub other_place : (k m : ℕ) (xs : List X) (x : X) → m < length xs → get_or xs m x ≡ x → (m ≡ k) ⊎ Contains (without k xs) x
   other_place k m [] x h is = absurd (omega arith)

@@ -1,6 +1,6 @@
 -- Regulators, wall forms and facets are carried.
 use Rattle.std.proofs.lemmas.List.Elements.{Contains-get_or}
-use Rattle.std.proofs.Common.{◌≡◌, ◌≢◌, ℕ, ℤ, pos, negsuc, ◌+ℤ◌, ◌*ℤ◌, ◌<ℤ◌, ◌<◌, ap, arith, sym, ◌∙◌, subst, List, [], ◌∷◌, length, map, get_or}
+use Rattle.std.proofs.Common.{◌≡◌, ◌≢◌, ℕ, ℤ, pos, negsuc, ◌+ℤ◌, ◌*ℤ◌, ◌<ℤ◌, ◌<◌, ap, arith, sym, ◌∙◌, subst, List, [], length, map, get_or}
 use Rattle.std.proofs.lemmas.Int.{ints}
 use Rattle.lt_model.specs.Forms.{squares, numbers_of_form, value}
 use Rattle.lt_model.specs.Matrices.{apply, Carries}
@@ -19,6 +19,7 @@ use Rattle.lt_geometry.proofs.Images.{IsCarried, HasCarried, has_carried, carrie
 use Rattle.lt_geometry.proofs.Induced.{induced, pulled, value-pulled, length-pulled, pulled_back, length-squares, length-normal, normal_back}
 use Rattle.lt_geometry.proofs.Matrices.{IsUndone, undone_back, dot-apply, apply-scale, same_from_dots_at}
 use Rattle.lt_geometry.proofs.Motions.{moved, length-moved, length_of_member}
+use Rattle.lt_geometry.proofs.Normals.{all_squares}
 
 -- ---- the normal of an excess
 
@@ -31,14 +32,10 @@ dot-excess_normal q vs x b c =
     let e4 : dot q (combine b (map squares vs)) ≡ dot b (map (value q) vs) = dot-combine q b (map squares vs) ∙ ap (dot b) (map-map_vectors (dot q) squares vs) in
     omega (arith, ints, e1, e2, e3, e4)
 
-squares_all : (d : ℕ) (vs : List (List ℤ)) → AllOfDimension d vs → AllOfDimension (numbers_of_form d) (map squares vs)
-squares_all d [] all = tt
-squares_all d (v ∷ vs) all = (length-squares d v all.0, squares_all d vs all.1)
-
 pub length-excess_normal : (d : ℕ) (vs : List (List ℤ)) (x b : List ℤ) (c : ℤ) → AllOfDimension d vs → 0 < length vs → length x ≡ d → length b ≡ length vs → length (excess_normal vs x c b) ≡ numbers_of_form d
 length-excess_normal d vs x b c all some lx lb =
     let l1 : length (scale c (squares x)) ≡ numbers_of_form d = length-scale c (squares x) ∙ length-squares d x lx in
-    let l2 : length (combine b (map squares vs)) ≡ numbers_of_form d = length-combine (numbers_of_form d) b (map squares vs) (squares_all d vs all) (lb ∙ sym (length-map_vectors squares vs)) (omega (arith, some, length-map_vectors squares vs)) in
+    let l2 : length (combine b (map squares vs)) ≡ numbers_of_form d = length-combine (numbers_of_form d) b (map squares vs) (all_squares d vs all) (lb ∙ sym (length-map_vectors squares vs)) (omega (arith, some, length-map_vectors squares vs)) in
     length-plus (scale c (squares x)) (scale (negsuc 0) (combine b (map squares vs))) (l1 ∙ sym (length-scale (negsuc 0) (combine b (map squares vs)) ∙ l2)) ∙ l1
 
 -- ---- pairs

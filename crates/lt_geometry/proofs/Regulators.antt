@@ -3,7 +3,7 @@ use Rattle.std.proofs.Common.{◌≡◌, ℕ, suc, ℤ, pos, negsuc, ◌-ℤ◌,
 use Rattle.std.proofs.lemmas.Int.{ints, by_lt_z}
 use Rattle.std.specs.List.{Contains}
 use Rattle.lt_model.proofs.Ring.{ring, var, neg, ◌⊖◌, ◌⊗◌}
-use Rattle.lt_model.proofs.Inequalities.{mul_nonneg_z}
+use Rattle.lt_model.proofs.Inequalities.{mul_nonneg_z, natural}
 use Rattle.lt_model.proofs.Squares.{length-scale}
 use Rattle.lt_model.proofs.Vectors.{dot-scale}
 use Rattle.lt_model.proofs.Excess.{same_from_dots, scale-dot, length-translate}
@@ -16,14 +16,16 @@ use Rattle.lt_model.specs.Simplices.{IsSimplex, IsExpression, excess, translate}
 use Rattle.lt_model.specs.Facets.{number_at, IsNeighbour}
 use Rattle.lt_model.specs.Triangulations.{IsDelaunay}
 use Rattle.lt_model.specs.Walls.{excess_normal, IsPair, IsRegulator}
+use Rattle.lt_model.proofs.Points.{weighted}
 use Rattle.lt_geometry.specs.Regulators.{outer_vertex, IsRegulatorAt}
 use Rattle.lt_geometry.proofs.WalkEnds.{positive_excess}
 use Rattle.lt_geometry.proofs.Normals.{normal_dot, normal_value, length-normal}
 use Rattle.lt_geometry.proofs.Primitive.{same_primitive}
 use Rattle.lt_geometry.proofs.PrimitiveParts.{primitive_part}
 use Rattle.lt_geometry.proofs.Closed.{get_dimension}
-use Rattle.lt_geometry.proofs.Unique.{weighted, one_neighbour}
-use Rattle.lt_geometry.proofs.Sides.{paving_of, unique_neighbour, mutual_neighbour, turned, aside}
+use Rattle.lt_geometry.proofs.Unique.{one_neighbour}
+use Rattle.lt_geometry.proofs.Sides.{unique_neighbour, mutual_neighbour, turned, aside}
+use Rattle.lt_geometry.proofs.Fewness.{paving_of}
 
 -- the outer vertex has d coordinates
 pub length_outer : (d : ℕ) (a : List ℤ) (t : List (List (List ℤ))) → IsDelaunay d a t → (s : List (List ℤ)) (i : ℕ) (next : List (List ℤ)) (p : List ℤ) (j : ℕ) → IsNeighbour d t s i next p j → length (outer_vertex next p j) ≡ d
@@ -136,10 +138,6 @@ regulators_positive d a t n k r =
     (at.primitive, length-at d a t s i n k ms at, positive_at d a t k n r)
 
 -- ---- one at each facet
-
-natural : (c : ℤ) → pos 0 <ℤ c → (m : ℕ) × (c ≡ pos m) × (0 < m)
-natural (pos m) h = (m, refl, omega (arith, ints))
-natural (negsuc m) h = absurd (omega (arith, ints))
 
 times_positive : (x y : ℕ) → 0 < x → 0 < y → 0 < x * y
 times_positive x y u v = grind arith

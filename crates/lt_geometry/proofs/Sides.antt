@@ -13,7 +13,7 @@ use Rattle.lt_model.proofs.Walk.{dot-without, without-map, number_at-map, number
 use Rattle.lt_model.proofs.Opposite.{length-zeros, zeros-dot}
 use Rattle.lt_model.proofs.Expressions.{has_weighted, one_expression, number_at-zeros, total-scale}
 use Rattle.lt_model.proofs.Moved.{simplex_moved, translate-back}
-use Rattle.lt_model.proofs.Translates.{without-translate, get-translate}
+use Rattle.lt_model.proofs.Translates.{without-translate, get-translate, ascending_translate}
 use Rattle.lt_model.proofs.Sets.{Contains-head, Contains-tail, Contains-cases, Contains-none, each_holds, never_below_itself, number_list_cmp_total}
 use Rattle.lt_model.specs.Order.{number_list_cmp}
 use Rattle.lt_model.specs.Vectors.{plus, scale, dot, total, combine, zeros}
@@ -21,17 +21,15 @@ use Rattle.lt_model.specs.Forms.{value}
 use Rattle.lt_model.specs.Simplices.{AllOfDimension, IsSimplex, IsClass, IsExpression, IsStrictlyEmpty, excess, translate}
 use Rattle.lt_model.specs.Facets.{number_at, without, with_at, IsBeyond, IsNeighbour}
 use Rattle.lt_model.specs.Triangulations.{IsDelaunay}
-use Rattle.lt_geometry.specs.Paving.{IsPaving}
+use Rattle.lt_model.proofs.Points.{weighted}
 use Rattle.lt_geometry.specs.Regulators.{outer_vertex}
 use Rattle.lt_geometry.proofs.WalkEnds.{expression_moved}
 use Rattle.lt_geometry.proofs.LocalWalk.{empty_moved}
-use Rattle.lt_geometry.proofs.Whole.{ascending_translate, same_from_within}
+use Rattle.lt_geometry.proofs.Whole.{same_from_within}
 use Rattle.lt_geometry.proofs.Closed.{get_dimension}
-use Rattle.lt_geometry.proofs.Unique.{weighted, one_or_other, no_number, one_neighbour}
+use Rattle.lt_geometry.proofs.Unique.{one_or_other, no_number, one_neighbour}
 use Rattle.lt_geometry.proofs.Classes.{same_translate}
-
-pub paving_of : (d : ℕ) (a : List ℤ) (t : List (List (List ℤ))) → IsDelaunay d a t → IsPaving d a t
-paving_of d a t k = record { classes = λ s m. ((k.members s).0 m).0; empty = λ s m. ((k.members s).0 m).1; closed = k.closed }
+use Rattle.lt_geometry.proofs.Fewness.{paving_of}
 
 -- ---- places of members
 
@@ -44,7 +42,7 @@ was_vertex (v ∷ vs) (suc i) x c =
       | inr r ↦ Contains-tail v vs x (was_vertex vs i x r)
     ]
 
-at_place : (vs : List (List ℤ)) (i : ℕ) → i < length vs → Contains vs (get_or vs i [])
+pub at_place : (vs : List (List ℤ)) (i : ℕ) → i < length vs → Contains vs (get_or vs i [])
 at_place [] i h = absurd (omega arith)
 at_place (v ∷ vs) zero h = Contains-head v vs
 at_place (v ∷ vs) (suc i) h = Contains-tail v vs (get_or vs i []) (at_place vs i (omega arith))

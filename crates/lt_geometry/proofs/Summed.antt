@@ -7,14 +7,14 @@ use Rattle.std.proofs.Math.IntN.{*ℤ-zero}
 use Rattle.lt_model.proofs.Vectors.{dot-scale}
 use Rattle.lt_model.proofs.Squares.{length-scale, length-plus}
 use Rattle.lt_model.proofs.Excess.{dot-combine, plus-dot, scale-dot}
-use Rattle.lt_geometry.proofs.WalkEnds.{mul-not_negative}
 use Rattle.lt_model.proofs.Dependent.{zero_or_not, mul-not_zero}
 use Rattle.lt_model.proofs.Opposite.{length-zeros, zeros-dot}
-use Rattle.lt_geometry.proofs.Uniform.{total-zeros}
 use Rattle.lt_model.proofs.Expressions.{total-plus, total-scale}
 use Rattle.lt_model.specs.Vectors.{plus, scale, dot, total, zeros}
 use Rattle.lt_model.specs.Forms.{value}
 use Rattle.lt_model.specs.Simplices.{AllOfDimension, IsExpression, excess}
+use Rattle.lt_model.proofs.Differences.{total-none}
+use Rattle.lt_model.proofs.Inequalities.{mul_nonneg_z}
 
 -- a point with its numbers over vs, all with the scale c
 pub record HasEach (d : ℕ) (vs : List (List ℤ)) (c : ℤ) : Type 0 where
@@ -65,7 +65,7 @@ summed d q vs c k [] [] e all nn l = record {
   bs = zeros (length vs);
   is = record {
     one_each = length-zeros (length vs);
-    sum = total-zeros (length vs) ∙ sym (*ℤ-zero c);
+    sum = total-none (length vs) ∙ sym (*ℤ-zero c);
     point = λ u. zeros-dot (length vs) (map (dot u) vs) ∙ sym (*ℤ-zero c);
     low = omega (arith, ints, zeros-dot (length vs) (map (value q) vs), *ℤ-zero c);
     tight = λ p t. tt;
@@ -83,7 +83,7 @@ summed d q vs c k (a ∷ a') (v ∷ us) e all nn l =
         one_each = length-plus (scale a b) h.bs (length-scale a b ∙ x.one_each ∙ sym h.is.one_each) ∙ length-scale a b ∙ x.one_each;
         sum = total-plus (scale a b) h.bs ∙ (rw (total-scale a b, x.sum, h.is.sum) (sum_end a c (total a')));
         point = λ u. at u b h.bs x (h.is.point u);
-        low = rw (plus-dot (scale a b) h.bs (map (value q) vs), scale-dot a b (map (value q) vs)) (low_end a c (value q v) (dot b (map (value q) vs)) (dot a' (map (value q) us)) (dot h.bs (map (value q) vs)) (mul-not_negative a (excess q vs v c b) nn.0 (e v c b all.0 x)) h.is.low);
+        low = rw (plus-dot (scale a b) h.bs (map (value q) vs), scale-dot a b (map (value q) vs)) (low_end a c (value q v) (dot b (map (value q) vs)) (dot a' (map (value q) us)) (dot h.bs (map (value q) vs)) (mul_nonneg_z a (excess q vs v c b) nn.0 (e v c b all.0 x)) h.is.low);
         tight = λ p t. tight a' us b h.bs h.is x p t all.0;
       };
     }
@@ -95,7 +95,7 @@ summed d q vs c k (a ∷ a') (v ∷ us) e all nn l =
         sym (plus-dot (scale a b) r (map (value q) vs) ∙ ap (λ n. n +ℤ dot r (map (value q) vs)) (scale-dot a b (map (value q) vs))) ∙ t
         in
         let pos_a : pos 0 ≤ℤ a = omega (arith, ints, p.0) in
-        let both = tight_end a c (value q v) (dot b (map (value q) vs)) (dot a' (map (value q) us)) (dot r (map (value q) vs)) (mul-not_negative a (excess q vs v c b) pos_a (e v c b lv x)) h.low t2 in
+        let both = tight_end a c (value q v) (dot b (map (value q) vs)) (dot a' (map (value q) us)) (dot r (map (value q) vs)) (mul_nonneg_z a (excess q vs v c b) pos_a (e v c b lv x)) h.low t2 in
         (record { c = c; b = b; expression = x; zero = zero_factor a (excess q vs v c b) p.0 both.1 }, h.tight p.1 both.0)
 
     sum_end : (a c t : ℤ) → a *ℤ c +ℤ c *ℤ t ≡ c *ℤ (a +ℤ t)

@@ -9,7 +9,7 @@ use Rattle.lt_model.specs.Padded.{head_z, tail_z}
 use Rattle.lt_walls.proofs.Lists.{Alike, alike-refl, alike-sym, alike-trans, alike-cons, alike-cancel, alike-second, alike-qs, qs-cons, qs-nil, qs-fun, qs-of, qs-diff, qs-scale, qs-zero, In, in-nil, in-head, in-tail, in-cases, in-alike, front, Distinct, distinct-alike, distinct-out, distinct-tail, differ, apart, upd, upd-at, upd-off, upd-cons}
 use Rattle.lt_walls.proofs.Space.{Simp, excess, excess-is, same-at, Opp, opp-alike}
 use Rattle.lt_walls.proofs.Margins.{moved, qs-moved, alike-moved, in-moved, moved-cons}
-use Rattle.lt_geometry.proofs.Points.{Vec, list, of_list, length-list, place, coordinate, vec-dec, list-add, lin, lin-scale, lin-same, carried, Form, at, space, product, length-product, product-value, axis, none, dot-axis, place-none}
+use Rattle.lt_geometry.proofs.Points.{Vec, list, of_list, length-list, place, coordinate, vec-dec, list-add, lin, lin-scale, lin-same, carried, Form, at, space, product, length-product, product-value, axis, none, dot-axis, place-none, lin-zeros}
 use Rattle.lt_geometry.proofs.Members.{lists, of_lists, list-same, ascending-distinct, shift, opposite, shift-back, shift-forth, off, coordinate-shift, sum-shift, moved_back, Placed, placed-alike, placed-moved}
 use Rattle.lt_model.specs.Vectors.{scale, dot, total, combine}
 use Rattle.lt_model.specs.Simplices.{IsClass, translate}
@@ -59,11 +59,6 @@ qs-in dec f g b (x ∷ S) h = qs-cons f b x S ∙ ap₂ (λ y z. b x *ℤ y +ℤ
 qs-plus : {P : Type 0} → (f s t : P → ℤ) (S : List P) → qs f (λ v. s v +ℤ t v) S ≡ qs f s S +ℤ qs f t S
 qs-plus f s t S = qs-coefficients f (λ v. s v +ℤ t v) (λ v. pos 1 *ℤ s v +ℤ pos 1 *ℤ t v) (λ v. ring ((s v) ∷ (t v) ∷ []) (var 0 ⊕ var 1) (num (pos 1) ⊗ var 0 ⊕ num (pos 1) ⊗ var 1) tt) S ∙ qs-lin f s t (pos 1) (pos 1) S ∙ ring ((qs f s S) ∷ (qs f t S) ∷ []) (num (pos 1) ⊗ var 0 ⊕ num (pos 1) ⊗ var 1) (var 0 ⊕ var 1) tt
 
-lin-none : (g : List ℤ) → lin g (λ j. pos 0) ≡ pos 0
-unfolding lin
-lin-none [] = refl
-lin-none (a ∷ g) = ap (λ z. a *ℤ pos 0 +ℤ z) (lin-none g) ∙ ring (a ∷ []) (var 0 ⊗ num (pos 0) ⊕ num (pos 0)) (num (pos 0)) tt
-
 lin-coefficients : {P : Type 0} → (g : List ℤ) (f : P → ℤ) (h : ℕ → P → ℤ) (S : List P) → qs f (λ v. lin g (λ k. h k v)) S ≡ lin g (λ k. qs f (h k) S)
 unfolding lin
 lin-coefficients [] f h [] = qs-nil f (λ v. pos 0)
@@ -88,7 +83,7 @@ slopes-dot (suc d) h x = ap (λ z. h zero *ℤ x.0 +ℤ z) (slopes-dot d (λ k. 
 lin-axes : (d : ℕ) (x : Vec d) (l : ℕ) → lin (list d x) (λ k. place d (axis d k) l) ≡ place d x l
 unfolding lin
 lin-axes zero x l = refl
-lin-axes (suc d) x zero = ap (λ z. x.0 *ℤ pos 1 +ℤ z) (lin-none (list d (x.1))) ∙ ring (x.0 ∷ []) (var 0 ⊗ num (pos 1) ⊕ num (pos 0)) (var 0) tt
+lin-axes (suc d) x zero = ap (λ z. x.0 *ℤ pos 1 +ℤ z) (lin-zeros (list d (x.1))) ∙ ring (x.0 ∷ []) (var 0 ⊗ num (pos 1) ⊕ num (pos 0)) (var 0) tt
 lin-axes (suc d) x (suc l) = ap₂ (λ y z. x.0 *ℤ y +ℤ z) (place-none d l) (lin-axes d (x.1) l) ∙ ring (x.0 ∷ (place d (x.1) l) ∷ []) (var 0 ⊗ num (pos 0) ⊕ var 1) (var 1) tt
 
 -- an expression carried along a translation
@@ -358,7 +353,7 @@ products d two S simp D D_pos co i j G al = (Q, holds)
         sums l = sym (add-up l) ∙ sym (qs-plus (coordinate d l) o (λ v. lin (list d x) (λ k. e k v -ℤ o v)) S ∙ ap₂ (λ y z. y +ℤ z) (sym ((co (none d)).1 l)) (lin-coefficients (list d x) (coordinate d l) (λ k v. e k v -ℤ o v) S ∙ lin-same (list d x) (λ k. qs (coordinate d l) (λ v. e k v -ℤ o v) S) (λ k. D *ℤ (coordinate d l (axis d k) -ℤ coordinate d l (none d))) (λ k. qs-diff (coordinate d l) (e k) o S ∙ ring_by_two (D ∷ (coordinate d l (axis d k)) ∷ (coordinate d l (none d)) ∷ (qs (coordinate d l) (e k) S) ∷ (qs (coordinate d l) o S) ∷ []) (var 3 ⊖ var 4) (var 0 ⊗ (var 1 ⊖ var 2)) (neg (num (pos 1))) (var 0 ⊗ var 1) (var 3) (num (pos 1)) (var 0 ⊗ var 2) (var 4) tt ((co (axis d k)).1 l) ((co (none d)).1 l)) ∙ lin-scale (list d x) D (λ k. coordinate d l (axis d k) -ℤ coordinate d l (none d))))
           where
             add-up : (l : ℕ) → D *ℤ coordinate d l (none d) +ℤ D *ℤ lin (list d x) (λ k. coordinate d l (axis d k) -ℤ coordinate d l (none d)) ≡ D *ℤ coordinate d l x
-            add-up zero = ap (λ z. D *ℤ pos 1 +ℤ D *ℤ z) (lin-same (list d x) (λ k. pos 1 -ℤ pos 1) (λ k. pos 0) (λ k. refl) ∙ lin-none (list d x)) ∙ ring (D ∷ []) (var 0 ⊗ num (pos 1) ⊕ var 0 ⊗ num (pos 0)) (var 0 ⊗ num (pos 1)) tt
+            add-up zero = ap (λ z. D *ℤ pos 1 +ℤ D *ℤ z) (lin-same (list d x) (λ k. pos 1 -ℤ pos 1) (λ k. pos 0) (λ k. refl) ∙ lin-zeros (list d x)) ∙ ring (D ∷ []) (var 0 ⊗ num (pos 1) ⊕ var 0 ⊗ num (pos 0)) (var 0 ⊗ num (pos 1)) tt
             add-up (suc l) = ap₂ (λ y z. D *ℤ y +ℤ D *ℤ z) (place-none d l) (lin-same (list d x) (λ k. place d (axis d k) l -ℤ place d (none d) l) (λ k. place d (axis d k) l) (λ k. omega (arith, ints, place-none d l)) ∙ lin-axes d x l) ∙ ring (D ∷ (place d x l) ∷ []) (var 0 ⊗ num (pos 0) ⊕ var 0 ⊗ var 1) (var 0 ⊗ var 1) tt
 
     -- at a vertex the coordinate is D or 0

@@ -6,12 +6,15 @@ use Rattle.std.proofs.Math.IntN.{*ℤ_comm, *ℤ-zero}
 use Rattle.lt_model.proofs.Vectors.{dot-scale, dot_comm}
 use Rattle.lt_model.proofs.Squares.{length-scale, length-plus}
 use Rattle.lt_model.proofs.Excess.{dot-combine, same_from_dots, dot-nil, plus-dot, scale-dot}
-use Rattle.lt_model.proofs.Walk.{length-combine, IsWeighted, mul-positive}
+use Rattle.lt_model.proofs.Walk.{length-combine, IsWeighted}
 use Rattle.lt_model.proofs.Opposite.{length-zeros, zeros-dot}
 use Rattle.lt_model.proofs.Expressions.{has_weighted, HasWeighted, total-plus, total-scale}
 use Rattle.lt_model.specs.Vectors.{plus, scale, dot, total, combine, zeros}
 use Rattle.lt_model.specs.Simplices.{AllOfDimension, IsSimplex}
 use Rattle.lt_model.specs.Matrices.{identity}
+use Rattle.lt_model.proofs.Flat.{longer_all}
+use Rattle.lt_model.proofs.Differences.{total-none}
+use Rattle.lt_model.proofs.Inequalities.{mul_pos_z}
 
 -- b are the numbers of a combination of directions, times c
 pub record IsDirection (vs gs : List (List ℤ)) (c : ℤ) (a b : List ℤ) : Type 0 where
@@ -24,10 +27,6 @@ pub record HasDirections (vs gs : List (List ℤ)) : Type 0 where
   pub positive : pos 0 <ℤ c
   pub b : List ℤ → List ℤ
   pub is : (a : List ℤ) → length a ≡ length gs → IsDirection vs gs c a (b a)
-
-pub total-zeros : (n : ℕ) → total (zeros n) ≡ pos 0
-total-zeros zero = refl
-total-zeros (suc n) = omega (arith, ints, total-zeros n)
 
 abbrev pub head_or : List ℤ → ℤ
 head_or [] = pos 0
@@ -51,7 +50,7 @@ directions d vs [] s all = record {
   b = λ a. zeros (length vs);
   is = λ a l. record {
     one_each = length-zeros (length vs);
-    sum = total-zeros (length vs);
+    sum = total-none (length vs);
     point = λ u. zeros-dot (length vs) (map (dot u) vs) ∙ (omega (arith, ints, dot-nil a));
   };
 }
@@ -60,7 +59,7 @@ directions d vs (g ∷ gs) s all =
     let w = has_weighted d vs (pos 0) g s all.0 in
     record {
       c = w.c *ℤ h.c;
-      positive = mul-positive w.c h.c w.is.positive h.positive;
+      positive = mul_pos_z w.c h.c w.is.positive h.positive;
       b = λ a. plus (scale (head_or a *ℤ h.c) w.b) (scale w.c (h.b (tail_or a)));
       is = λ a l. more d vs g gs a h w l;
     }
@@ -82,13 +81,9 @@ directions d vs (g ∷ gs) s all =
             plus-dot (scale (a *ℤ h.c) w.b) (scale w.c (h.b rest_a)) (map (dot u) vs)
             ∙ (rw (scale-dot (a *ℤ h.c) w.b (map (dot u) vs), scale-dot w.c (h.b rest_a) (map (dot u) vs), e1, k.point u) (step_end a h.c w.c (dot u g) (dot rest_a (map (dot u) gs))))
 
-padded : (d : ℕ) (vs : List (List ℤ)) → AllOfDimension d vs → AllOfDimension (suc d) (map (λ v. pos 0 ∷ v) vs)
-padded d [] h = tt
-padded d (v ∷ vs) h = (ap suc h.0, padded d vs h.1)
-
 identity_all : (d : ℕ) → AllOfDimension d (identity d)
 identity_all zero = tt
-identity_all (suc d) = (ap suc (length-zeros d), padded d (identity d) (identity_all d))
+identity_all (suc d) = (ap suc (length-zeros d), longer_all d (identity d) (identity_all d))
 
 length-padded : (vs : List (List ℤ)) → length (map (λ v. let w : List ℤ = pos 0 ∷ v in w) vs) ≡ length vs
 length-padded [] = refl
@@ -132,7 +127,7 @@ uniform d vs s =
     let w = has_weighted d vs (pos 1) (zeros d) s (length-zeros d) in
     record {
       c = w.c *ℤ h.c;
-      positive = mul-positive w.c h.c w.is.positive h.positive;
+      positive = mul_pos_z w.c h.c w.is.positive h.positive;
       b = λ m x. plus (scale (m *ℤ h.c) w.b) (scale w.c (h.b x));
       is = λ m x l. make d vs s h w m x l;
     }
@@ -144,7 +139,7 @@ uniform d vs s =
         let b : List ℤ = plus (scale (m *ℤ h.c) w.b) (scale w.c (h.b x)) in
         let count : length b ≡ length vs = length-plus (scale (m *ℤ h.c) w.b) (scale w.c (h.b x)) (length-scale (m *ℤ h.c) w.b ∙ w.is.one_each ∙ sym (length-scale w.c (h.b x) ∙ k.one_each)) ∙ length-scale (m *ℤ h.c) w.b ∙ w.is.one_each in
         record {
-          positive = mul-positive w.c h.c w.is.positive h.positive;
+          positive = mul_pos_z w.c h.c w.is.positive h.positive;
           one_each = count;
           point = same_from_dots (combine b vs) (scale (w.c *ℤ h.c) x) (length-combine d b vs s.points count (omega (arith, s.count)) ∙ sym l ∙ sym (length-scale (w.c *ℤ h.c) x)) (λ u. at u k);
           sum = total-plus (scale (m *ℤ h.c) w.b) (scale w.c (h.b x)) ∙ (rw (total-scale (m *ℤ h.c) w.b, total-scale w.c (h.b x), k.sum, w.is.sum) (sum_end m h.c w.c));

@@ -4,46 +4,23 @@ use Rattle.std.proofs.lemmas.Int.{ints}
 use Rattle.std.specs.List.{Contains}
 use Rattle.lt_model.proofs.Integers.{mul_zero_z, mul_one_z, one_mul_z}
 use Rattle.lt_model.proofs.Ring.{ring, var, num, ◌⊕◌, ◌⊖◌, ◌⊗◌, neg}
-use Rattle.lt_model.proofs.Squares.{length-scale}
-use Rattle.lt_model.proofs.Vectors.{dot-scale}
-use Rattle.lt_model.proofs.Excess.{dot-combine, same_from_dots, length-translate}
-use Rattle.lt_model.proofs.Walk.{IsStep, IsWeighted, next_coefficients, next_expression, step_at, number_at-map, number_at-scale, length-combine, length-map}
-use Rattle.lt_model.proofs.Opposite.{unit-dot, length-unit}
+use Rattle.lt_model.proofs.Excess.{length-translate}
+use Rattle.lt_model.proofs.Walk.{IsStep, IsWeighted, next_coefficients, next_expression, step_at, number_at-scale}
 use Rattle.lt_model.proofs.Expressions.{one_expression}
 use Rattle.lt_model.proofs.Moved.{simplex_moved}
 use Rattle.lt_geometry.proofs.LocalWalk.{empty_moved}
 use Rattle.lt_model.proofs.Sets.{Contains-head, Contains-tail, Contains-cases, Contains-none}
-use Rattle.lt_model.specs.Vectors.{scale, dot, combine, unit}
+use Rattle.lt_model.specs.Vectors.{scale, dot, unit}
 use Rattle.lt_model.specs.Forms.{value}
-use Rattle.lt_model.specs.Simplices.{AllOfDimension, IsSimplex, IsExpression, IsStrictlyEmpty, excess, translate}
+use Rattle.lt_model.specs.Simplices.{IsSimplex, IsExpression, IsStrictlyEmpty, excess, translate}
 use Rattle.lt_model.specs.Facets.{number_at, without, IsNeighbour}
+use Rattle.lt_model.proofs.Points.{vertex_expression, weighted}
 use Rattle.lt_geometry.specs.Paving.{IsPaving}
 use Rattle.lt_geometry.proofs.Paths.{unit_other}
-use Rattle.lt_geometry.proofs.Closed.{get_dimension, total_unit}
-
-pub weighted : (vs : List (List ℤ)) (x : List ℤ) (c : ℤ) (b : List ℤ) → IsExpression vs x c b → IsWeighted vs (pos 1) x c b
-weighted vs x c b h = record { positive = h.positive; one_each = h.one_each; point = h.point; sum = h.sum ∙ sym (mul_one_z c) }
+use Rattle.lt_geometry.proofs.Closed.{get_dimension}
 
 pub expressed : (vs : List (List ℤ)) (x : List ℤ) (c : ℤ) (b : List ℤ) → IsWeighted vs (pos 1) x c b → IsExpression vs x c b
 expressed vs x c b h = record { positive = h.positive; one_each = h.one_each; point = h.point; sum = h.sum ∙ mul_one_z c }
-
--- a vertex as an expression
-pub vertex_expression : (d : ℕ) (vs : List (List ℤ)) (k : ℕ) → AllOfDimension d vs → k < length vs → IsExpression vs (get_or vs k []) (pos 1) (unit (length vs) k)
-vertex_expression d vs k all h = record {
-  positive = omega (arith, ints);
-  one_each = length-unit (length vs) k;
-  point = same_from_dots (combine (unit (length vs) k) vs) (scale (pos 1) v) (length-combine d (unit (length vs) k) vs all (length-unit (length vs) k) (omega arith) ∙ sym (get_dimension d vs k all h) ∙ sym (length-scale (pos 1) v)) at;
-  sum = total_unit (length vs) k h;
-}
-  where
-    v : List ℤ
-    v = get_or vs k []
-
-    at : (u : List ℤ) → dot u (combine (unit (length vs) k) vs) ≡ dot u (scale (pos 1) (get_or vs k []))
-    at u =
-        let e = unit-dot (length vs) k (map (dot u) vs) (length-map (dot u) vs) in
-        let f = number_at-map (dot u) k vs [] h in
-        dot-combine u (unit (length vs) k) vs ∙ (rw (dot-scale u (pos 1) (get_or vs k [])) (omega (arith, ints, e, f)))
 
 -- ---- places in a list without one
 

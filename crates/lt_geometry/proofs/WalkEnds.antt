@@ -7,21 +7,23 @@ use Rattle.std.proofs.Math.IntN.{*ℤ_comm}
 use Rattle.lt_model.proofs.Vectors.{dot-plus, dot-scale}
 use Rattle.lt_model.proofs.Squares.{length-scale, length-plus}
 use Rattle.lt_model.proofs.Excess.{dot-combine, same_from_dots, scale-dot}
-use Rattle.lt_model.proofs.Walk.{length-combine, length-map, IsWeighted, mul-positive, number_at-scale, number_at-map}
+use Rattle.lt_model.proofs.Walk.{length-combine, length-map, IsWeighted, number_at-scale, number_at-map}
 use Rattle.lt_model.proofs.Opposite.{unit-dot, length-unit}
 use Rattle.lt_model.proofs.Dependent.{zero_or_not}
 use Rattle.lt_model.proofs.Expressions.{one_expression, total-scale, number_at-zeros}
 use Rattle.lt_model.proofs.Moved.{weighted_moved}
-use Rattle.lt_geometry.proofs.Uniform.{uniform, HasUniform, total-zeros}
+use Rattle.lt_geometry.proofs.Uniform.{uniform, HasUniform}
 use Rattle.lt_model.proofs.Sets.{Contains-head, Contains-tail, Contains-cases, Contains-none}
-use Rattle.lt_model.specs.Vectors.{plus, scale, dot, total, combine, unit}
+use Rattle.lt_model.specs.Vectors.{plus, scale, dot, combine, unit}
 use Rattle.lt_model.specs.Simplices.{IsSimplex, IsExpression, IsStrictlyEmpty, excess, translate}
 use Rattle.lt_model.specs.Facets.{number_at}
+use Rattle.lt_model.proofs.Points.{total-unit, scale-one}
+use Rattle.lt_model.proofs.Inequalities.{mul_nonneg_z, mul_pos_z}
 
 -- numbers that are k times as large
 pub weighted_scaled : (d : ℕ) (vs : List (List ℤ)) (m : ℤ) (x b : List ℤ) (c k : ℤ) → IsSimplex d vs → length x ≡ d → pos 0 <ℤ k → IsWeighted vs m x c b → IsWeighted vs m x (k *ℤ c) (scale k b)
 weighted_scaled d vs m x b c k s lx hk h = record {
-  positive = mul-positive k c hk h.positive;
+  positive = mul_pos_z k c hk h.positive;
   one_each = length-scale k b ∙ h.one_each;
   point = same_from_dots (combine (scale k b) vs) (scale (k *ℤ c) x) (length-combine d (scale k b) vs s.points (length-scale k b ∙ h.one_each) (omega (arith, s.count)) ∙ sym lx ∙ sym (length-scale (k *ℤ c) x)) at;
   sum = total-scale k b ∙ ap (λ n. k *ℤ n) h.sum ∙ sym (mul_assoc_z k c m);
@@ -45,7 +47,7 @@ common d (s ∷ ss) each =
     let h = common d ss (λ r c. each r (Contains-tail s ss r c)) in
     record {
       c = u.c *ℤ h.c;
-      positive = mul-positive u.c h.c u.positive h.positive;
+      positive = mul_pos_z u.c h.c u.positive h.positive;
       has = λ r m x c l. has r m x c l u h;
     }
   where
@@ -86,23 +88,12 @@ negative_or_none [] = inr tt
 negative_or_none (pos n ∷ b) = elim (negative_or_none b) [ inl (i, h, k) ↦ inl (suc i, omega (arith, h), k) | inr all ↦ inr (omega (arith, ints), all) ]
 negative_or_none (negsuc n ∷ b) = inl (0, omega arith, omega (arith, ints))
 
-pub mul-not_negative : (a b : ℤ) → pos 0 ≤ℤ a → pos 0 ≤ℤ b → pos 0 ≤ℤ (a *ℤ b)
-mul-not_negative (pos a) (pos b) h k = omega (arith, ints)
-mul-not_negative (pos a) (negsuc b) h k = absurd (omega (arith, ints))
-mul-not_negative (negsuc a) b h k = absurd (omega (arith, ints))
-
 pub less_from_multiples : (c a b : ℤ) → pos 0 <ℤ c → (c *ℤ a) <ℤ (c *ℤ b) → a <ℤ b
 less_from_multiples c a b hc h =
     by_lt_z a b (λ k. k) (λ k.
-    let e : pos 0 ≤ℤ (c *ℤ (a -ℤ b)) = mul-not_negative c (a -ℤ b) (omega (arith, ints)) (omega (arith, ints)) in
+    let e : pos 0 ≤ℤ (c *ℤ (a -ℤ b)) = mul_nonneg_z c (a -ℤ b) (omega (arith, ints)) (omega (arith, ints)) in
     let f : c *ℤ (a -ℤ b) ≡ c *ℤ a -ℤ c *ℤ b = simp spread refl in
     absurd (omega (arith, ints, e, f)))
-
-pub scale-one : (x : List ℤ) → scale (pos 1) x ≡ x
-scale-one [] = refl
-scale-one (a ∷ x) =
-    let e : pos 1 *ℤ a ≡ a = omega (arith, ints) in
-    rw (e, scale-one x) refl
 
 pub expression_moved : (d : ℕ) (vs : List (List ℤ)) (p x b : List ℤ) (c : ℤ) → IsSimplex d vs → length p ≡ d → length x ≡ d → IsExpression vs x c b → IsExpression (translate p vs) (plus x p) c b
 expression_moved d vs p x b c s lp lx h =
@@ -117,11 +108,6 @@ number_at-unit (suc n) zero zero = inr refl
 number_at-unit (suc n) zero (suc i) = inl (number_at-zeros n i)
 number_at-unit (suc n) (suc k) zero = inl refl
 number_at-unit (suc n) (suc k) (suc i) = number_at-unit n k i
-
-total-unit : (n k : ℕ) → k < n → total (unit n k) ≡ pos 1
-total-unit zero k h = absurd (omega arith)
-total-unit (suc n) zero h = omega (arith, ints, total-zeros n)
-total-unit (suc n) (suc k) h = omega (arith, ints, total-unit n k (omega arith))
 
 -- a vertex is expressed by itself
 pub vertex_weighted : (d : ℕ) (vs : List (List ℤ)) (w : List ℤ) (k : ℕ) → IsSimplex d vs → length w ≡ d → k < length vs → get_or vs k w ≡ w → IsWeighted vs (pos 1) w (pos 1) (unit (length vs) k)

@@ -11,8 +11,10 @@ use Rattle.lt_model.proofs.Moved.{simplex_moved, translate_all}
 use Rattle.lt_geometry.proofs.WalkEnds.{HasCommon, over_translate, negative_or_none, less_from_multiples, expression_moved, positive_excess}
 use Rattle.lt_model.specs.Vectors.{plus, scale, dot}
 use Rattle.lt_model.specs.Forms.{value}
-use Rattle.lt_model.specs.Simplices.{AllOfDimension, IsSimplex, excess, translate}
+use Rattle.lt_model.specs.Simplices.{IsSimplex, excess, translate}
 use Rattle.lt_model.specs.Facets.{number_at, without, IsNeighbour}
+use Rattle.lt_model.proofs.Translates.{get-translate, without-translate}
+use Rattle.lt_model.proofs.Points.{get_dimension}
 pub use Rattle.lt_geometry.specs.Paving.{IsPaving}
 
 -- a member, moved, with the numbers of x / m over it
@@ -31,24 +33,9 @@ pub record Holds (d : ℕ) (t : List (List (List ℤ))) (m : ℤ) (x : List ℤ)
   pub there : IsAt d t m x c s p b
   pub inside : AllByRecursion (λ z. pos 0 ≤ℤ z) b
 
-without-translate : (p : List ℤ) (i : ℕ) (vs : List (List ℤ)) → without i (translate p vs) ≡ translate p (without i vs)
-without-translate p i [] = refl
-without-translate p zero (v ∷ vs) = refl
-without-translate p (suc i) (v ∷ vs) = ap (λ l. plus v p ∷ l) (without-translate p i vs)
-
 translate-translate : (p r : List ℤ) (vs : List (List ℤ)) → translate p (translate r vs) ≡ translate (plus r p) vs
 translate-translate p r [] = refl
 translate-translate p r (v ∷ vs) = rw (translate-translate p r vs, plus_assoc v r p) refl
-
-get-translate : (p : List ℤ) (j : ℕ) (vs : List (List ℤ)) (e w : List ℤ) → j < length vs → get_or (translate p vs) j w ≡ plus (get_or vs j e) p
-get-translate p j [] e w h = absurd (omega arith)
-get-translate p zero (v ∷ vs) e w h = refl
-get-translate p (suc j) (v ∷ vs) e w h = get-translate p j vs e w (omega arith)
-
-length_at : (d j : ℕ) (vs : List (List ℤ)) (e : List ℤ) → AllOfDimension d vs → j < length vs → length (get_or vs j e) ≡ d
-length_at d j [] e all h = absurd (omega arith)
-length_at d zero (v ∷ vs) e all h = all.0
-length_at d (suc j) (v ∷ vs) e all h = length_at d j vs e all.1 (omega arith)
 
 -- the next member of the walk
 pub record IsNext (d : ℕ) (q : List ℤ) (t : List (List (List ℤ))) (m : ℤ) (x : List ℤ) (c : ℤ) (s : List (List ℤ)) (p b : List ℤ) : Type 0 where
@@ -76,7 +63,7 @@ next_member d q t k m x s p b i paving lx here within neg =
     let ls : length shift ≡ d = length-plus p' p (n.dimension ∙ sym here.dimension) ∙ n.dimension in
     let w0 : List ℤ = get_or (translate p' r) j [] in
     let lr : length (translate p' r) ≡ suc d = length-translate p' r ∙ other.count in
-    let lw : length w0 ≡ d = length_at d j (translate p' r) [] (translate_all d p' r n.dimension other.points) (omega (arith, n.place)) in
+    let lw : length w0 ≡ d = get_dimension d j (translate p' r) [] (translate_all d p' r n.dimension other.points) (omega (arith, n.place)) in
     let e : ℤ = n.beyond.scale in
     let f : List ℤ = n.beyond.coefficients in
     let moved : translate p (translate p' r) ≡ translate shift r = translate-translate p p' r in

@@ -21,22 +21,26 @@ abbrev pub IsEquivalentToItself : Type 0
 IsEquivalentToItself = (d : ℕ) (t : List (List (List ℤ))) → AreClasses d t → Carries d (identity d) t t
 
 abbrev pub InverseCarriesBack : Type 0
-InverseCarriesBack = (d : ℕ) (u : List (List ℤ)) (t t2 : List (List (List ℤ))) → AreClasses d t → (h : Carries d u t t2) → Carries d h.inverse t2 t
+InverseCarriesBack = (d : ℕ) (u : List (List ℤ)) (t t2 : List (List (List ℤ))) → AreClasses d t → (h : Carries d u t t2)
+    → Carries d h.inverse t2 t
 
 abbrev pub ProductsCarry : Type 0
 ProductsCarry =
-    (d : ℕ) (u v : List (List ℤ)) (t t2 t3 : List (List (List ℤ))) → AreClasses d t → Carries d u t t2 → Carries d v t2 t3 → Carries d (times v u) t t3
+    (d : ℕ) (u v : List (List ℤ)) (t t2 t3 : List (List (List ℤ))) → AreClasses d t → Carries d u t t2
+    → Carries d v t2 t3 → Carries d (times v u) t t3
 
 -- ---- what is carried
 
 -- an ascending image of a Delaunay triangulation is that of a form with the values of the first at the inverse images
 abbrev pub ImagesAreDelaunay : Type 0
 ImagesAreDelaunay =
-    (d : ℕ) (u : List (List ℤ)) (t t2 : List (List (List ℤ))) (q : List ℤ) → (h : Carries d u t t2) → IsStrictlySortedBy simplex_cmp t2 → IsDelaunay d q t →
+    (d : ℕ) (u : List (List ℤ)) (t t2 : List (List (List ℤ))) (q : List ℤ) → (h : Carries d u t t2)
+    → IsStrictlySortedBy simplex_cmp t2 → IsDelaunay d q t →
     (r : List ℤ) × IsDelaunay d r t2 × ((x : List ℤ) → length x ≡ d → value r x ≡ value q (apply h.inverse x))
 
 -- a crossing of p onto which u carries t2
-pub record IsCrossingOnto (d : ℕ) (u : List (List ℤ)) (p t2 : List (List (List ℤ))) (Step : List (List (List ℤ)) → List ℤ → List (List (List ℤ)) → Type 0) : Type 0 where
+pub record IsCrossingOnto (d : ℕ) (u : List (List ℤ)) (p t2 : List (List (List ℤ)))
+    (Step : List (List (List ℤ)) → List ℤ → List (List (List ℤ)) → Type 0) : Type 0 where
   pub facet : List ℤ
   pub list : List (List (List ℤ))
   pub is_facet : IsFacet d p facet
@@ -46,19 +50,23 @@ pub record IsCrossingOnto (d : ℕ) (u : List (List ℤ)) (p t2 : List (List (Li
 -- a triangulation across a facet goes to one across a facet of the image
 abbrev pub CrossingsAreCarried : Type 0
 CrossingsAreCarried =
-    (d : ℕ) (u : List (List ℤ)) (t p : List (List (List ℤ))) (n : List ℤ) (t2 : List (List (List ℤ))) → IsStrictlySortedBy simplex_cmp p → Carries d u t p → IsFacet d t n → IsAcross d t n t2 → IsCrossingOnto d u p t2 (IsAcross d)
+    (d : ℕ) (u : List (List ℤ)) (t p : List (List (List ℤ))) (n : List ℤ) (t2 : List (List (List ℤ)))
+    → IsStrictlySortedBy simplex_cmp p → Carries d u t p → IsFacet d t n → IsAcross d t n t2
+    → IsCrossingOnto d u p t2 (IsAcross d)
 
 -- the flip at a facet goes to the flip at a facet of the image
 abbrev pub FlipsAreCarried : Type 0
 FlipsAreCarried =
-    (d : ℕ) (u : List (List ℤ)) (t p : List (List (List ℤ))) (n : List ℤ) (t2 : List (List (List ℤ))) → AreClasses d t → Carries d u t p → IsFacet d t n → IsFlipOf d t n t2 → IsCrossingOnto d u p t2 (IsFlipOf d)
+    (d : ℕ) (u : List (List ℤ)) (t p : List (List (List ℤ))) (n : List ℤ) (t2 : List (List (List ℤ))) → AreClasses d t
+    → Carries d u t p → IsFacet d t n → IsFlipOf d t n t2 → IsCrossingOnto d u p t2 (IsFlipOf d)
 
 -- ---- candidates
 
 -- the matrix sends the vertices of s to those of s2 in the order p, less the first of that order
 pub record IsCandidate (d : ℕ) (s s2 : List (List ℤ)) (p : List ℕ) (u : List (List ℤ)) : Type 0 where
   pub square : IsSquare d u
-  pub images : (i : ℕ) → i < suc d → apply u (get_or s i []) ≡ minus (get_or s2 (get_or p i 0) []) (get_or s2 (get_or p 0 0) [])
+  pub images : (i : ℕ) → i < suc d → apply u (get_or s i []) ≡ minus (get_or s2 (get_or p i 0) [])
+      (get_or s2 (get_or p 0 0) [])
 
 -- a member of t2 and an order of which u is the candidate
 pub record IsFromAnOrder (d : ℕ) (t2 : List (List (List ℤ))) (s : List (List ℤ)) (u : List (List ℤ)) : Type 0 where
@@ -69,7 +77,9 @@ pub record IsFromAnOrder (d : ℕ) (t2 : List (List (List ℤ))) (s : List (List
   pub candidate : IsCandidate d s to order u
 
 abbrev pub WhatCarriesIsACandidate : Type 0
-WhatCarriesIsACandidate = (d : ℕ) (u : List (List ℤ)) (t t2 : List (List (List ℤ))) (s : List (List ℤ)) → AreClasses d t → Carries d u t t2 → Contains t s → IsFromAnOrder d t2 s u
+WhatCarriesIsACandidate = (d : ℕ) (u : List (List ℤ)) (t t2 : List (List (List ℤ))) (s : List (List ℤ)) → AreClasses d t
+    → Carries d u t t2 → Contains t s → IsFromAnOrder d t2 s u
 
 abbrev pub OrdersHaveOneCandidate : Type 0
-OrdersHaveOneCandidate = (d : ℕ) (s s2 : List (List ℤ)) (p : List ℕ) (u w : List (List ℤ)) → IsClass d s → IsCandidate d s s2 p u → IsCandidate d s s2 p w → u ≡ w
+OrdersHaveOneCandidate = (d : ℕ) (s s2 : List (List ℤ)) (p : List ℕ) (u w : List (List ℤ)) → IsClass d s
+    → IsCandidate d s s2 p u → IsCandidate d s s2 p w → u ≡ w

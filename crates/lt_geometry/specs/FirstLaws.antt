@@ -19,15 +19,18 @@ ValuesAreLinear =
 -- Q[x + y] + Q[x - y] = 2 Q[x] + 2 Q[y]
 abbrev pub ParallelogramLaw : Type 0
 ParallelogramLaw =
-    (q x y : List ℤ) → length x ≡ length y → value q (plus x y) +ℤ value q (minus x y) ≡ pos 2 *ℤ value q x +ℤ pos 2 *ℤ value q y
+    (q x y : List ℤ) → length x ≡ length y → value q (plus x y) +ℤ value q (minus x y)
+    ≡ pos 2 *ℤ value q x +ℤ pos 2 *ℤ value q y
 
 -- an excess stays the same where simplex and point are moved together
 abbrev pub ExcessesMoveAlong : Type 0
 ExcessesMoveAlong =
-    (d : ℕ) (q : List ℤ) (vs : List (List ℤ)) (x t : List ℤ) (c : ℤ) (b : List ℤ) → AllOfDimension d vs → length x ≡ d → length t ≡ d → IsExpression vs x c b →
+    (d : ℕ) (q : List ℤ) (vs : List (List ℤ)) (x t : List ℤ) (c : ℤ) (b : List ℤ) → AllOfDimension d vs → length x ≡ d
+    → length t ≡ d → IsExpression vs x c b →
     excess q (translate t vs) (plus x t) c b ≡ excess q vs x c b
 
 -- two expressions of one point over a simplex are multiples of each other
 abbrev pub ExpressionsAreProportional : Type 0
 ExpressionsAreProportional =
-    (d : ℕ) (vs : List (List ℤ)) (x : List ℤ) (c c' : ℤ) (b b' : List ℤ) → IsSimplex d vs → IsExpression vs x c b → IsExpression vs x c' b' → scale c' b ≡ scale c b'
+    (d : ℕ) (vs : List (List ℤ)) (x : List ℤ) (c c' : ℤ) (b b' : List ℤ) → IsSimplex d vs → IsExpression vs x c b
+    → IsExpression vs x c' b' → scale c' b ≡ scale c b'

@@ -39,7 +39,8 @@ level_normal = numbers (pos 2) (pos 1) (pos 0)
 abbrev pub PlaneIsDelaunay : Type 0
 PlaneIsDelaunay =
     IsClass 2 left_class × IsClass 2 right_class × IsPrincipal 2 plane
-    × (principal_numbers 2 ≡ numbers (pos 2) (negsuc 1) (pos 2)) × IsDelaunay 2 (numbers (pos 2) (negsuc 1) (pos 2)) plane
+    × (principal_numbers 2 ≡ numbers (pos 2) (negsuc 1) (pos 2))
+    × IsDelaunay 2 (numbers (pos 2) (negsuc 1) (pos 2)) plane
 
 -- the three normals are regulators, and no pair of members has another
 abbrev pub PlaneRegulators : Type 0
@@ -72,7 +73,8 @@ across_level =
 -- they are the flips of the triangulation
 abbrev pub PlaneFlips : Type 0
 PlaneFlips =
-    IsFlipOf 2 plane diagonal_normal across_diagonal × IsFlipOf 2 plane upright_normal across_upright × IsFlipOf 2 plane level_normal across_level
+    IsFlipOf 2 plane diagonal_normal across_diagonal × IsFlipOf 2 plane upright_normal across_upright
+    × IsFlipOf 2 plane level_normal across_level
 
 -- the matrices 1 0 1 1, 1 0 -1 1 and 0 1 1 -1 carry them back
 abbrev pub PlaneMatrices : Type 0

@@ -15,18 +15,22 @@ abbrev pub own_normal : ℕ → ℕ → List ℤ
 own_normal d i = cross (ones d) (unit d i)
 
 abbrev pub IsPrincipalNormal : ℕ → List ℤ → Type 0
-IsPrincipalNormal d n = ((i : ℕ) × (j : ℕ) × (i < j) × (j < d) × (n ≡ pair_normal d i j)) ⊎ ((i : ℕ) × (i < d) × (n ≡ own_normal d i))
+IsPrincipalNormal d n = ((i : ℕ) × (j : ℕ) × (i < j) × (j < d) × (n ≡ pair_normal d i j))
+    ⊎ ((i : ℕ) × (i < d) × (n ≡ own_normal d i))
 
 -- the principal triangulation is the Delaunay triangulation of the principal form
 abbrev pub PrincipalIsDelaunay : Type 0
-PrincipalIsDelaunay = (d : ℕ) (t : List (List (List ℤ))) → 1 ≤ d → IsPrincipal d t → IsDelaunay d (principal_numbers d) t
+PrincipalIsDelaunay = (d : ℕ) (t : List (List (List ℤ))) → 1 ≤ d → IsPrincipal d t
+    → IsDelaunay d (principal_numbers d) t
 
 -- its regulators are the normals that are stated, and all of them are facets
 abbrev pub PrincipalRegulators : Type 0
-PrincipalRegulators = (d : ℕ) (t : List (List (List ℤ))) → 2 ≤ d → IsPrincipal d t → (n : List ℤ) → IsRegulator d t n ↔ IsPrincipalNormal d n
+PrincipalRegulators = (d : ℕ) (t : List (List (List ℤ))) → 2 ≤ d → IsPrincipal d t → (n : List ℤ)
+    → IsRegulator d t n ↔ IsPrincipalNormal d n
 
 abbrev pub PrincipalFacets : Type 0
-PrincipalFacets = (d : ℕ) (t : List (List (List ℤ))) → 2 ≤ d → IsPrincipal d t → (n : List ℤ) → IsPrincipalNormal d n → IsFacet d t n
+PrincipalFacets = (d : ℕ) (t : List (List (List ℤ))) → 2 ≤ d → IsPrincipal d t → (n : List ℤ) → IsPrincipalNormal d n
+    → IsFacet d t n
 
 -- the coefficient a_ij of a form in dimension d, where i <= j; the numbers of a form are its rows from the diagonal on
 abbrev pub coefficient : ℕ → List ℤ → ℕ → ℕ → ℤ
@@ -51,4 +55,5 @@ PrincipalExists = (d : ℕ) → (t : List (List (List ℤ))) × IsPrincipal d t
 
 -- d (d + 1) / 2 regulators
 abbrev pub PrincipalCount : Type 0
-PrincipalCount = (d : ℕ) (t : List (List (List ℤ))) (ns : List (List ℤ)) → 2 ≤ d → IsPrincipal d t → AreRegulators d t ns → length ns ≡ numbers_of_form d
+PrincipalCount = (d : ℕ) (t : List (List (List ℤ))) (ns : List (List ℤ)) → 2 ≤ d → IsPrincipal d t
+    → AreRegulators d t ns → length ns ≡ numbers_of_form d

@@ -26,28 +26,33 @@ pub record IsRegulatorAt (d : ℕ) (t : List (List (List ℤ))) (s : List (List 
   pub some : 0 < factor
   pub multiple : excess_normal s (outer_vertex next shift outer) c b ≡ scale (pos factor) n
 
--- an integer point that is a combination of the vertices with no negative number is a vertex, where the simplex is strictly empty
+-- an integer point that is a combination of the vertices with no negative number is a vertex, where the simplex is
+-- strictly empty
 abbrev pub PointsInsideAreVertices : Type 0
 PointsInsideAreVertices =
-    (d : ℕ) (q : List ℤ) (vs : List (List ℤ)) (x : List ℤ) (c : ℤ) (b : List ℤ) → IsPositiveDefinite d q → IsSimplex d vs → IsStrictlyEmpty d q vs → length x ≡ d → IsExpression vs x c b →
+    (d : ℕ) (q : List ℤ) (vs : List (List ℤ)) (x : List ℤ) (c : ℤ) (b : List ℤ) → IsPositiveDefinite d q
+    → IsSimplex d vs → IsStrictlyEmpty d q vs → length x ≡ d → IsExpression vs x c b →
     All (λ z. pos 0 ≤ℤ z) b → Contains vs x
 
 -- two members that share a facet and differ lie on opposite sides of it
 abbrev pub MembersLieOpposite : Type 0
 MembersLieOpposite =
-    (d : ℕ) (a : List ℤ) (t : List (List (List ℤ))) (s : List (List ℤ)) (i : ℕ) (next : List (List ℤ)) (p : List ℤ) (j : ℕ) → IsDelaunay d a t → Contains t s → Contains t next → length p ≡ d → i < suc d → j < suc d →
+    (d : ℕ) (a : List ℤ) (t : List (List (List ℤ))) (s : List (List ℤ)) (i : ℕ) (next : List (List ℤ)) (p : List ℤ)
+    (j : ℕ) → IsDelaunay d a t → Contains t s → Contains t next → length p ≡ d → i < suc d → j < suc d →
     without j (translate p next) ≡ without i s → translate p next ≢ s → IsBeyond s i (outer_vertex next p j)
 
 -- a facet of a member has one neighbour
 abbrev pub NeighboursAreUnique : Type 0
 NeighboursAreUnique =
-    (d : ℕ) (a : List ℤ) (t : List (List (List ℤ))) (s : List (List ℤ)) (i : ℕ) (next next' : List (List ℤ)) (p p' : List ℤ) (j j' : ℕ) → IsDelaunay d a t → Contains t s → i < suc d →
+    (d : ℕ) (a : List ℤ) (t : List (List (List ℤ))) (s : List (List ℤ)) (i : ℕ) (next next' : List (List ℤ))
+    (p p' : List ℤ) (j j' : ℕ) → IsDelaunay d a t → Contains t s → i < suc d →
     IsNeighbour d t s i next p j → IsNeighbour d t s i next' p' j' → (next ≡ next') × (p ≡ p') × (j ≡ j')
 
 -- and a member is the neighbour of its neighbour
 abbrev pub NeighboursAreMutual : Type 0
 NeighboursAreMutual =
-    (d : ℕ) (a : List ℤ) (t : List (List (List ℤ))) (s : List (List ℤ)) (i : ℕ) (next : List (List ℤ)) (p : List ℤ) (j : ℕ) → IsDelaunay d a t → Contains t s → i < suc d →
+    (d : ℕ) (a : List ℤ) (t : List (List (List ℤ))) (s : List (List ℤ)) (i : ℕ) (next : List (List ℤ)) (p : List ℤ)
+    (j : ℕ) → IsDelaunay d a t → Contains t s → i < suc d →
     IsNeighbour d t s i next p j → IsNeighbour d t next j s (scale (negsuc 0) p) i
 
 -- each facet of a member has one regulator, and these are the regulators of the triangulation
@@ -55,31 +60,40 @@ abbrev pub FacetsHaveOneRegulator : Type 0
 FacetsHaveOneRegulator =
     (d : ℕ) (a : List ℤ) (t : List (List (List ℤ))) → IsDelaunay d a t →
     ((s : List (List ℤ)) (i : ℕ) → Contains t s → i < suc d → (n : List ℤ) × IsRegulatorAt d t s i n)
-    × ((s : List (List ℤ)) (i : ℕ) (n n' : List ℤ) → Contains t s → i < suc d → IsRegulatorAt d t s i n → IsRegulatorAt d t s i n' → n ≡ n')
-    × ((n : List ℤ) → IsRegulator d t n ↔ ((s : List (List ℤ)) × (i : ℕ) × Contains t s × (i < suc d) × IsRegulatorAt d t s i n))
+    × ((s : List (List ℤ)) (i : ℕ) (n n' : List ℤ) → Contains t s → i < suc d → IsRegulatorAt d t s i n
+    → IsRegulatorAt d t s i n' → n ≡ n')
+    × ((n : List ℤ) → IsRegulator d t n ↔ ((s : List (List ℤ)) × (i : ℕ) × Contains t s × (i < suc d)
+    × IsRegulatorAt d t s i n))
 
 -- it is the same from both sides
 abbrev pub RegulatorsAreMutual : Type 0
 RegulatorsAreMutual =
-    (d : ℕ) (a : List ℤ) (t : List (List (List ℤ))) (s : List (List ℤ)) (i : ℕ) (next : List (List ℤ)) (p : List ℤ) (j : ℕ) (n : List ℤ) → IsDelaunay d a t → Contains t s → i < suc d →
+    (d : ℕ) (a : List ℤ) (t : List (List (List ℤ))) (s : List (List ℤ)) (i : ℕ) (next : List (List ℤ)) (p : List ℤ)
+    (j : ℕ) (n : List ℤ) → IsDelaunay d a t → Contains t s → i < suc d →
     IsNeighbour d t s i next p j → IsRegulatorAt d t s i n → IsRegulatorAt d t next j n
 
--- regulators are primitive lists of as many numbers as a form has, and positive at each form of the triangulation; so none is a list of zeros
+-- regulators are primitive lists of as many numbers as a form has, and positive at each form of the triangulation; so
+-- none is a list of zeros
 abbrev pub RegulatorsArePositive : Type 0
 RegulatorsArePositive =
-    (d : ℕ) (a : List ℤ) (t : List (List (List ℤ))) (n : List ℤ) → IsDelaunay d a t → IsRegulator d t n → IsPrimitive n × (length n ≡ numbers_of_form d) × (pos 0 <ℤ dot n a)
+    (d : ℕ) (a : List ℤ) (t : List (List (List ℤ))) (n : List ℤ) → IsDelaunay d a t → IsRegulator d t n → IsPrimitive n
+    × (length n ≡ numbers_of_form d) × (pos 0 <ℤ dot n a)
 
 -- the excess of the outer vertex of a neighbour is positive at each form of the triangulation, by each expression
 abbrev pub OuterVerticesLieAbove : Type 0
 OuterVerticesLieAbove =
-    (d : ℕ) (a : List ℤ) (t : List (List (List ℤ))) (s : List (List ℤ)) (i : ℕ) (next : List (List ℤ)) (p : List ℤ) (j : ℕ) (c : ℤ) (b : List ℤ) → IsDelaunay d a t → Contains t s → i < suc d →
-    IsNeighbour d t s i next p j → IsExpression s (outer_vertex next p j) c b → pos 0 <ℤ dot (excess_normal s (outer_vertex next p j) c b) a
+    (d : ℕ) (a : List ℤ) (t : List (List (List ℤ))) (s : List (List ℤ)) (i : ℕ) (next : List (List ℤ)) (p : List ℤ)
+    (j : ℕ) (c : ℤ) (b : List ℤ) → IsDelaunay d a t → Contains t s → i < suc d →
+    IsNeighbour d t s i next p j → IsExpression s (outer_vertex next p j) c b
+    → pos 0 <ℤ dot (excess_normal s (outer_vertex next p j) c b) a
 
 -- each Delaunay triangulation has a regulator
 abbrev pub TriangulationsHaveRegulators : Type 0
-TriangulationsHaveRegulators = (d : ℕ) (a : List ℤ) (t : List (List (List ℤ))) → IsDelaunay d a t → (n : List ℤ) × IsRegulator d t n
+TriangulationsHaveRegulators = (d : ℕ) (a : List ℤ) (t : List (List (List ℤ))) → IsDelaunay d a t → (n : List ℤ)
+    × IsRegulator d t n
 
 -- a Delaunay triangulation of some form is that of the forms at which all its regulators are positive, and of no others
 abbrev pub LocalToGlobal : Type 0
 LocalToGlobal =
-    (d : ℕ) (a q : List ℤ) (t : List (List (List ℤ))) → IsDelaunay d a t → length q ≡ numbers_of_form d → IsDelaunay d q t ↔ ((n : List ℤ) → IsRegulator d t n → pos 0 <ℤ dot n q)
+    (d : ℕ) (a q : List ℤ) (t : List (List (List ℤ))) → IsDelaunay d a t → length q ≡ numbers_of_form d
+    → IsDelaunay d q t ↔ ((n : List ℤ) → IsRegulator d t n → pos 0 <ℤ dot n q)

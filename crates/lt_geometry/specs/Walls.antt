@@ -11,13 +11,16 @@ use Rattle.lt_model.specs.Walls.{IsWallForm}
 
 -- in dimension 2 and more the wall forms of a Delaunay triangulation are positive definite
 abbrev pub WallFormsAreDefinite : Type 0
-WallFormsAreDefinite = (d : ℕ) (a w n : List ℤ) (t : List (List (List ℤ))) → 2 ≤ d → IsDelaunay d a t → IsWallForm d t n w → IsPositiveDefinite d w
+WallFormsAreDefinite = (d : ℕ) (a w n : List ℤ) (t : List (List (List ℤ))) → 2 ≤ d → IsDelaunay d a t
+    → IsWallForm d t n w → IsPositiveDefinite d w
 
 -- of the points that are no vertices of a member, at most one has the excess 0 at a wall form
 abbrev pub OnePointOnEllipsoid : Type 0
 OnePointOnEllipsoid =
-    (d : ℕ) (a w n : List ℤ) (t : List (List (List ℤ))) (s : List (List ℤ)) → 2 ≤ d → IsDelaunay d a t → IsWallForm d t n w → Contains t s →
-    (x x' : List ℤ) → length x ≡ d → length x' ≡ d → (Contains s x → ⊥) → (Contains s x' → ⊥) → (c c' : ℤ) (b b' : List ℤ) → IsExpression s x c b → IsExpression s x' c' b' →
+    (d : ℕ) (a w n : List ℤ) (t : List (List (List ℤ))) (s : List (List ℤ)) → 2 ≤ d → IsDelaunay d a t
+    → IsWallForm d t n w → Contains t s →
+    (x x' : List ℤ) → length x ≡ d → length x' ≡ d → (Contains s x → ⊥) → (Contains s x' → ⊥)
+    → (c c' : ℤ) (b b' : List ℤ) → IsExpression s x c b → IsExpression s x' c' b' →
     excess w s x c b ≡ pos 0 → excess w s x' c' b' ≡ pos 0 → x ≡ x'
 
 -- the ellipsoid e W[x] = l x + k has no integer point inside
@@ -33,5 +36,6 @@ pub record AreOnEllipsoid (d : ℕ) (w : List ℤ) (e : ℤ) (l : List ℤ) (k :
 -- on an empty ellipsoid of a wall form are at most d + 2 integer points
 abbrev pub FewPointsOnEllipsoid : Type 0
 FewPointsOnEllipsoid =
-    (d : ℕ) (a w n : List ℤ) (t : List (List (List ℤ))) (e : ℤ) (l : List ℤ) (k : ℤ) (ps : List (List ℤ)) → 2 ≤ d → IsDelaunay d a t → IsWallForm d t n w → IsEmptyEllipsoid d w e l k →
+    (d : ℕ) (a w n : List ℤ) (t : List (List (List ℤ))) (e : ℤ) (l : List ℤ) (k : ℤ) (ps : List (List ℤ)) → 2 ≤ d
+    → IsDelaunay d a t → IsWallForm d t n w → IsEmptyEllipsoid d w e l k →
     IsStrictlySortedBy number_list_cmp ps → AreOnEllipsoid d w e l k ps → length ps ≤ suc (suc d)

@@ -64,7 +64,8 @@ fn may_wait(bytes: &[u8], room: usize) -> bool
 impl<K: Sink> LineSink<K> {
     /// Gives the bytes that wait to the other sink.
     fn pass_on(&mut self) -> Result<(), Failed>
-        ensures same { Keeps (append_known (K.held self.old.sink) self.old.waiting) (append_known (K.held self.new.sink) self.new.waiting) }
+        ensures same { Keeps (append_known (K.held self.old.sink) self.old.waiting)
+            (append_known (K.held self.new.sink) self.new.waiting) }
         ensures none { OnOk result (self.new.waiting ≡ []) }
         ensures cause { HasCause (K.faults self.old.sink) (K.faults self.new.sink) result }
     {
@@ -87,7 +88,8 @@ impl<K: Sink> Sink for LineSink<K> {
     fn put(&mut self, bytes: &[u8]) -> Result<usize, Failed>
         ensures bound { WritesAtMost result bytes.now }
         ensures some { IfOk result (λ k. 0 < length bytes.now → 0 < k) }
-        ensures bytes { WriteAppends (append_known (K.held self.old.sink) self.old.waiting) (append_known (K.held self.new.sink) self.new.waiting) result bytes.now }
+        ensures bytes { WriteAppends (append_known (K.held self.old.sink) self.old.waiting)
+            (append_known (K.held self.new.sink) self.new.waiting) result bytes.now }
         ensures cause { HasCause (K.faults self.old.sink) (K.faults self.new.sink) result }
         ensures passed { OnOk result (Contains bytes.now 10 → self.new.waiting ≡ []) }
     {

@@ -74,7 +74,13 @@ pub struct MemorySource {
 impl Model for MemorySource {
     ghost Value = { Incoming };
 
-    ghost view = { λ s. record { left = drop s.taken s.bytes.items; piece = s.piece; fail = s.fail.items; calls = s.calls; faults = s.faults } };
+    ghost view = { λ s. record {
+      left = drop s.taken s.bytes.items;
+      piece = s.piece;
+      fail = s.fail.items;
+      calls = s.calls;
+      faults = s.faults;
+    } };
 
     ghost invariant = { λ s. (s.taken ≤ length s.bytes.items) × (0 < s.piece) };
 }
@@ -134,7 +140,14 @@ pub struct MemorySink {
 impl Model for MemorySink {
     ghost Value = { Outgoing };
 
-    ghost view = { λ s. record { held = take s.filled s.bytes.items; room = length s.bytes.items; piece = s.piece; fail = s.fail.items; calls = s.calls; faults = s.faults } };
+    ghost view = { λ s. record {
+      held = take s.filled s.bytes.items;
+      room = length s.bytes.items;
+      piece = s.piece;
+      fail = s.fail.items;
+      calls = s.calls;
+      faults = s.faults;
+    } };
 
     ghost invariant = { λ s. (s.filled ≤ length s.bytes.items) × (0 < s.piece) };
 }
@@ -148,7 +161,14 @@ impl MemorySink {
         fail: Vec<u64>,
     ) -> Result<MemorySink, Memory>
         requires { 0 < piece }
-        ensures { IfOk result (λ s. s ≡ record { held = []; room = room; piece = piece; fail = fail.items; calls = 0; faults = 0 }) }
+        ensures { IfOk result (λ s. s ≡ record {
+          held = [];
+          room = room;
+          piece = piece;
+          fail = fail.items;
+          calls = 0;
+          faults = 0;
+        }) }
     {
         match vec![in alloc; 0u8; room] {
             Ok(bytes) => Ok(MemorySink {

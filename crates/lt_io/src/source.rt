@@ -62,7 +62,8 @@ fn take_some<S: Source>(
     most: usize,
 ) -> Result<bool, ReadAllError>
     requires { 0 < most }
-    ensures more { IfOk result (λ more. Gains (S.left source.old) (S.left source.new) bytes.old.items bytes.new.items most more) }
+    ensures more { IfOk result (λ more. Gains (S.left source.old) (S.left source.new) bytes.old.items bytes.new.items
+        most more) }
     ensures why { IfErr result (WhyNot (S.faults source.old) (S.faults source.new)) }
     ensures later { S.faults source.old ≤ S.faults source.new }
 {
@@ -86,7 +87,8 @@ pub fn read_all<S: Source>(
     // All that was left, and no more than the limit.
     ensures read { IfOk result (λ bytes. ReadsAll (S.left source.old) (S.left source.new) bytes.items limit) }
     // One byte more than the limit, or a fault that the source counts, or want of memory.
-    ensures why { IfErr result (WhyNotAll (S.left source.old) (S.left source.new) (S.faults source.old) (S.faults source.new) limit) }
+    ensures why { IfErr result (WhyNotAll (S.left source.old) (S.left source.new) (S.faults source.old)
+        (S.faults source.new) limit) }
     ensures later { S.faults source.old ≤ S.faults source.new }
 {
     let mut bytes = Vec::new(alloc);

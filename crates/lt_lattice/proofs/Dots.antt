@@ -8,7 +8,7 @@ use Rattle.std.proofs.lemmas.List.Elements.{All-head, All-tail}
 use Rattle.lt_lattice.specs.Ranges.{IsWithin, IsBelow, size_of_dot}
 use Rattle.lt_model.specs.Vectors.{dot}
 
-dot-drop : (a b : List ℤ) (i : ℕ) → i < length a → i < length b → dot (drop i a) (drop i b) ≡ get_or a i (pos 0) *ℤ get_or b i (pos 0) +ℤ dot (drop (i + 1) a) (drop (i + 1) b)
+pub dot-drop : (a b : List ℤ) (i : ℕ) → i < length a → i < length b → dot (drop i a) (drop i b) ≡ get_or a i (pos 0) *ℤ get_or b i (pos 0) +ℤ dot (drop (i + 1) a) (drop (i + 1) b)
 dot-drop a b i p q = rw (add-one i, drop-cons a i (pos 0), drop-cons b i (pos 0)) refl
 
 pub size-drop : (a b : List ℤ) (i : ℕ) → i < length a → i < length b → size_of_dot (drop i a) (drop i b) ≡ nat_abs (get_or a i (pos 0) *ℤ get_or b i (pos 0)) + size_of_dot (drop (i + 1) a) (drop (i + 1) b)

@@ -42,9 +42,6 @@ column_within m d j u l h all = λ i e k.
 
 -- ---- the image of a point
 
-pub length-apply : (u : List (List ℤ)) (x : List ℤ) → length (apply u x) ≡ length u
-length-apply u x = length-map u (λ r. dot r x)
-
 pub get-apply : (i : ℕ) (u : List (List ℤ)) (x : List ℤ) → i < length u → get_or (apply u x) i (pos 0) ≡ dot (get_or u i []) x
 get-apply i [] x h = absurd (omega arith)
 get-apply zero (r ∷ u) x h = refl

@@ -12,7 +12,7 @@ use Rattle.lt_model.proofs.Excess.{dot-combine, map-same, gradient, same_from_do
 use Rattle.lt_model.proofs.Walk.{IsWeighted, length-map}
 use Rattle.lt_model.proofs.Opposite.{zeros-dot}
 use Rattle.lt_model.proofs.Expressions.{has_weighted, number_at-zeros}
-use Rattle.lt_model.proofs.Sets.{Contains-head, Contains-tail, each_holds}
+use Rattle.lt_model.proofs.Sets.{Contains-head, Contains-tail}
 use Rattle.lt_model.specs.Vectors.{minus, scale, dot, total, combine, zeros}
 use Rattle.lt_model.specs.Forms.{squares, value, polar, IsPositiveDefinite}
 use Rattle.lt_model.specs.Matrices.{identity}
@@ -22,14 +22,12 @@ use Rattle.lt_geometry.proofs.Points.{polar_comm}
 use Rattle.lt_geometry.proofs.Uniform.{at_units, length-identity}
 use Rattle.lt_geometry.proofs.Unique.{expressed}
 use Rattle.lt_geometry.proofs.Values.{list_dec}
+use Rattle.lt_geometry.proofs.Motions.{length_of_member}
 use Rattle.lt_laws.proofs.Orthogonal.{IsOrthogonal, orthogonal}
 use Rattle.lt_laws.specs.Circumradii.{IsCentre}
 use Rattle.lt_laws.proofs.Halves.{twice_value}
 
 -- ---- sums of polar values
-
-pub vertex_dimension : (d : ℕ) (vs : List (List ℤ)) (v : List ℤ) → AllOfDimension d vs → Contains vs v → length v ≡ d
-vertex_dimension d vs v all c = each_holds (λ x. length x ≡ d) vs v all c
 
 pub polar_sum : (d : ℕ) (q : List ℤ) (vs : List (List ℤ)) (p x b : List ℤ) (c : ℤ) → AllOfDimension d vs → length p ≡ d → length x ≡ d → combine b vs ≡ scale c x → dot b (map (λ v. polar q v p) vs) ≡ c *ℤ polar q x p
 polar_sum d q vs p x b c all lp lx e =
@@ -128,7 +126,7 @@ flat d q vs k p pd s lp h = (none, last (first_vertex d vs s))
 
     last : (v : List ℤ) × Contains vs v → k ≡ pos 0
     last (v, c) =
-        let lv = vertex_dimension d vs v s.points c in
+        let lv = length_of_member d vs v s.points c in
         let g = gradient q v in
         let z : polar q v p ≡ pos 0 = polar_comm q v p (lv ∙ sym lp) ∙ g.1 p (lp ∙ sym lv) ∙ ap (dot g.0) none ∙ dot_comm g.0 (zeros d) ∙ zeros-dot d g.0 in
         omega (arith, ints, h v c, z)
@@ -148,7 +146,7 @@ has_level d q vs pd s =
         lp = omega (arith, h.count)
 
         at : (v : List ℤ) → Contains vs v → g *ℤ value q v +ℤ k +ℤ polar q v p ≡ pos 0
-        at v c = at_vertex d q g k p v lp (vertex_dimension d vs v s.points c) (h.each (row_of d q v) (rows_have d q vs v c))
+        at v c = at_vertex d q g k p v lp (length_of_member d vs v s.points c) (h.each (row_of d q v) (rows_have d q vs v c))
 
         up : (x a k y : ℤ) → x *ℤ a +ℤ k +ℤ y ≡ pos 0 → negsuc 0 *ℤ y ≡ x *ℤ a +ℤ k
         up x a k y e = omega (arith, ints, e)
@@ -210,7 +208,7 @@ centres_exist d q vs pd s = go (has_level d q vs pd s)
         dimension = h.dimension;
         denominator = mul_pos_z g g h.multiple h.multiple;
         multiple = h.multiple;
-        through = λ v c. end g (value q v) (value q p) k (polar q v p) (value q (minus (scale g v) p)) (h.each v c) (distance d q g v p (vertex_dimension d vs v s.points c) h.dimension);
+        through = λ v c. end g (value q v) (value q p) k (polar q v p) (value q (minus (scale g v) p)) (h.each v c) (distance d q g v p (length_of_member d vs v s.points c) h.dimension);
       },
     )
 
@@ -222,7 +220,7 @@ pub level_sum : (d : ℕ) (q : List ℤ) (vs : List (List ℤ)) (n e g m : ℤ) 
 level_sum d q vs n e g m p z b c s h lz w =
     let g_e = mul_pos_z e g h.denominator h.multiple in
     let f : (v : List ℤ) → Contains vs v → e *ℤ g *ℤ (g *ℤ value q v -ℤ polar q v p) ≡ n *ℤ (g *ℤ g) -ℤ e *ℤ value q p = λ v m.
-    level (value q v) (value q p) (polar q v p) (value q (minus (scale g v) p)) (h.through v m) (distance d q g v p (vertex_dimension d vs v s.points m) h.dimension)
+    level (value q v) (value q p) (polar q v p) (value q (minus (scale g v) p)) (h.through v m) (distance d q g v p (length_of_member d vs v s.points m) h.dimension)
     in
     let o = first_vertex d vs s in
     let k : ℤ = g *ℤ value q o.0 -ℤ polar q o.0 p in
@@ -299,7 +297,7 @@ centres_are_unique d q vs n e g n' e' g' p p' pd s h h' = (same, radii (first_ve
 
     radii : (v : List ℤ) × Contains vs v → n *ℤ e' ≡ n' *ℤ e
     radii (v, c) =
-        let lv = vertex_dimension d vs v s.points c in
+        let lv = length_of_member d vs v s.points c in
         let x : List ℤ = minus (scale g v) p in
         let x' : List ℤ = minus (scale g' v) p' in
         let lx : length x ≡ d = long g v p lv h.dimension in

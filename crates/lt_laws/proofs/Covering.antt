@@ -15,13 +15,14 @@ use Rattle.lt_model.specs.Vectors.{plus, minus, scale, dot, total}
 use Rattle.lt_model.specs.Forms.{squares, value, polar, IsPositiveDefinite}
 use Rattle.lt_model.specs.Simplices.{AllOfDimension, IsSimplex, translate}
 use Rattle.lt_model.specs.Triangulations.{IsDelaunay}
+use Rattle.lt_model.proofs.Translates.{from_translate}
 use Rattle.lt_geometry.proofs.Values.{value_not_negative}
+use Rattle.lt_geometry.proofs.Motions.{length_of_member}
 use Rattle.lt_laws.specs.Circumradii.{IsCentre}
 use Rattle.lt_laws.specs.Covering.{IsCovered}
-use Rattle.lt_laws.proofs.Circumradii.{vertex_dimension, polar_sum, polar-scaled, pulled, distance, level_sum, centres_exist}
+use Rattle.lt_laws.proofs.Circumradii.{polar_sum, polar-scaled, pulled, distance, level_sum, centres_exist}
 use Rattle.lt_laws.proofs.Halves.{twice_value}
 use Rattle.lt_laws.proofs.Holding.{holding}
-use Rattle.lt_laws.proofs.Negated.{moved_from}
 
 -- ---- the centre of a translate
 
@@ -30,7 +31,7 @@ centre_moved d q vs n e g c p all lp h = record {
   dimension = lm;
   denominator = h.denominator;
   multiple = h.multiple;
-  through = λ x m. let (v, cv, is) = moved_from p vs x m in ap (λ (y : List ℤ). e *ℤ value q y) (same v x (vertex_dimension d vs v all cv) is) ∙ h.through v cv;
+  through = λ x m. let (v, cv, is) = from_translate p vs x m in ap (λ (y : List ℤ). e *ℤ value q y) (same v x (length_of_member d vs v all cv) is) ∙ h.through v cv;
 }
   where
     lm : length (plus c (scale g p)) ≡ d
@@ -172,7 +173,7 @@ pub greatest_covers : (d : ℕ) (q : List ℤ) (t : List (List (List ℤ))) (n e
 greatest_covers d q t n e del pe bound m x pm lx =
     let h = each_point_is_covered d q t m x del pm lx in
     let points = translate_all d h.shift h.owner h.dimension ((del.members h.owner).0 h.member).0.simplex.points in
-    (h.vertex, vertex_dimension d (translate h.shift h.owner) h.vertex points h.is_vertex, end h.n h.e (value q (minus (scale m h.vertex) x)) h.is_centre.denominator h.near (bound h.owner h.n h.e h.g h.centre h.member h.is_centre))
+    (h.vertex, length_of_member d (translate h.shift h.owner) h.vertex points h.is_vertex, end h.n h.e (value q (minus (scale m h.vertex) x)) h.is_centre.denominator h.near (bound h.owner h.n h.e h.g h.centre h.member h.is_centre))
   where
     end : (n' e' y : ℤ) → pos 0 <ℤ e' → (e' *ℤ y) ≤ℤ (n' *ℤ (m *ℤ m)) → (n' *ℤ e) ≤ℤ (n *ℤ e') → (e *ℤ y) ≤ℤ (n *ℤ (m *ℤ m))
     end n' e' y pe' near low =

@@ -14,12 +14,14 @@ use Rattle.lt_model.specs.Vectors.{plus, scale, dot, zeros}
 use Rattle.lt_model.specs.Forms.{squares, value}
 use Rattle.lt_model.specs.Triangulations.{IsDelaunay}
 use Rattle.lt_laws.specs.Edges.{IsEdge, AreOfOneParity}
-use Rattle.lt_geometry.proofs.Choices.{AreApart, fit, apart_from_sorted}
+use Rattle.lt_geometry.proofs.Choices.{fit}
 use Rattle.lt_geometry.proofs.Parity.{odd, parity, half, doubled, value-zeros, value-negative}
 use Rattle.lt_geometry.proofs.EdgeLists.{bit_lists, length-bits, bits_has}
 use Rattle.lt_geometry.proofs.Fewness.{scale-zeros}
 use Rattle.lt_geometry.proofs.LocalWalk.{zeros-plus}
-use Rattle.lt_laws.proofs.Listing.{map_from, apart_append}
+use Rattle.lt_geometry.proofs.Rearranged.{IsDistinct, distinct_append}
+use Rattle.lt_geometry.proofs.Sorting.{sorted_is_distinct}
+use Rattle.lt_laws.proofs.Listing.{map_from}
 use Rattle.lt_laws.proofs.Shortest.{HasEdge, has_edge, edge_place, place_least, one_edge, edge_shortest}
 
 -- ---- one parity, by bits
@@ -61,7 +63,7 @@ edge_odd d q t x del e h =
 
 -- ---- the lists of bits differ, and each is a parity
 
-cons_apart : (b : ℕ) (ls : List (List ℕ)) → AreApart ls → AreApart (map (λ l. b ∷ l) ls)
+cons_apart : (b : ℕ) (ls : List (List ℕ)) → IsDistinct ls → IsDistinct (map (λ l. b ∷ l) ls)
 cons_apart b [] a = tt
 cons_apart b (l ∷ ls) a = (
   λ c. (let f = map_from (λ (r : List ℕ). b ∷ r) ls (b ∷ l) c in let e : f.0 ≡ l = tail f.0 l f.2 in a.0 (subst (λ (r : List ℕ). Contains ls r) e f.1)),
@@ -71,19 +73,16 @@ cons_apart b (l ∷ ls) a = (
     tail : (m l : List ℕ) → b ∷ m ≡ b ∷ l → m ≡ l
     tail m l e = cc
 
-pub bits_apart : (d : ℕ) → AreApart (bit_lists d)
+pub bits_apart : (d : ℕ) → IsDistinct (bit_lists d)
 bits_apart zero = (λ c. Contains-none [] c, tt)
 bits_apart (suc d) =
-    apart_append (map (λ (l : List ℕ). 0 ∷ l) (bit_lists d)) (map (λ (l : List ℕ). 1 ∷ l) (bit_lists d)) (cons_apart 0 (bit_lists d) (bits_apart d)) (cons_apart 1 (bit_lists d) (bits_apart d))
+    distinct_append (map (λ (l : List ℕ). 0 ∷ l) (bit_lists d)) (map (λ (l : List ℕ). 1 ∷ l) (bit_lists d)) (cons_apart 0 (bit_lists d) (bits_apart d)) (cons_apart 1 (bit_lists d) (bits_apart d))
     (λ l c e. (let f = map_from (λ (r : List ℕ). 0 ∷ r) (bit_lists d) l c in let g = map_from (λ (r : List ℕ). 1 ∷ r) (bit_lists d) l e in never f.0 g.0 (f.2 ∙ sym g.2)))
   where
     never : (l m : List ℕ) → 0 ∷ l ≡ 1 ∷ m → ⊥
     never l m e =
         let z : (◌≡◌) {A = ℕ} 0 1 = cc in
         omega (arith, z)
-
-point_of : List ℕ → List ℤ
-point_of l = map pos l
 
 pub record IsBits (d : ℕ) (l : List ℕ) : Type 0 where
   pub dimension : length (map pos l) ≡ d
@@ -123,7 +122,7 @@ all_even (suc d) (a ∷ y) l = by (odd a) (parity y) (all_even d y (omega arith)
 
 pub edges_are_parities : (d : ℕ) (q : List ℤ) (t : List (List (List ℤ))) (es : List (List ℤ)) → IsDelaunay d q t → IsStrictlySortedBy number_list_cmp es → ((x : List ℤ) → Contains es x ↔ IsEdge d t x) → suc (length es) ≡ 2 ^ d
 edges_are_parities d q t es del sorted members =
-    let apart : AreApart es = apart_from_sorted number_list_cmp number_list_cmp_total es sorted in
+    let apart : IsDistinct es = sorted_is_distinct number_list_cmp number_list_cmp_total es sorted in
     let few : suc (length es) ≤ length (bit_lists d) =
     fit (λ (x : List ℤ) (l : List ℕ). parity x ≡ l) (zeros d ∷ es) (bit_lists d) (λ c. edge_not_zero d t (zeros d) ((members (zeros d)).0 c) refl, apart) (λ x c. (parity x, bits_has d x (length_of x (split x c)), refl)) (λ x y l c c' e e'. same x y (split x c) (split y c') (e ∙ sym e'))
     in

@@ -19,10 +19,10 @@ use Rattle.lt_model.specs.Vectors.{minus, scale, dot, total, combine}
 use Rattle.lt_model.specs.Forms.{value, polar}
 use Rattle.lt_model.specs.Simplices.{AllOfDimension, IsSimplex, IsStrictlyEmpty, translate}
 use Rattle.lt_model.specs.Triangulations.{IsDelaunay}
+use Rattle.lt_model.proofs.Points.{minus_itself}
 use Rattle.lt_geometry.proofs.Unique.{expressed}
 use Rattle.lt_geometry.proofs.Neighbours.{cross_comm}
 use Rattle.lt_geometry.proofs.Parity.{value-zeros}
-use Rattle.lt_geometry.proofs.Motions.{minus_itself}
 use Rattle.lt_geometry.proofs.Fewness.{paving_of}
 use Rattle.lt_laws.proofs.Holding.{holding}
 

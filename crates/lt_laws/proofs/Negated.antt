@@ -11,19 +11,16 @@ use Rattle.std.specs.Ordering.{MatchOrdering, int_cmp, ordering_then}
 use Rattle.std.specs.Cmp.{int_cmp_is, int_ranks}
 use Rattle.std.proofs.lemmas.List.Elements.{Contains-append_left, Contains-append_right}
 use Rattle.lt_model.proofs.Ring.{ring, var, num, ◌⊗◌}
-use Rattle.lt_model.proofs.Vectors.{dot-plus, dot-scale, dot_comm, scale-plus, scale-scale}
+use Rattle.lt_model.proofs.Vectors.{dot-plus, dot-scale, dot_comm, scale-plus}
 use Rattle.lt_model.proofs.Squares.{length-scale}
 use Rattle.lt_model.proofs.Excess.{dot-combine, same_from_dots, scale-dot}
 use Rattle.lt_model.proofs.Walk.{length-combine, length-map}
-use Rattle.lt_geometry.proofs.Motions.{minus_itself}
 use Rattle.lt_geometry.proofs.LocalWalk.{zeros-plus}
-use Rattle.lt_geometry.proofs.WalkEnds.{scale-one}
 use Rattle.lt_geometry.proofs.Fewness.{scale-zeros}
 use Rattle.lt_model.proofs.Opposite.{length-zeros, zeros-dot}
 use Rattle.lt_model.proofs.Dependent.{map-map_vectors, length-map_vectors}
 use Rattle.lt_model.proofs.Moved.{translate-back, simplex_moved}
 use Rattle.lt_geometry.proofs.LocalWalk.{empty_moved}
-use Rattle.lt_geometry.proofs.Whole.{ascending_translate}
 use Rattle.lt_model.proofs.Sets.{Contains-head, Contains-tail, Contains-cases, Contains-none, same_members, number_list_cmp_total}
 use Rattle.lt_model.specs.Order.{number_list_cmp}
 use Rattle.lt_model.specs.Vectors.{plus, scale, dot, total, combine, zeros}
@@ -31,9 +28,13 @@ use Rattle.lt_model.specs.Forms.{value}
 use Rattle.lt_model.specs.Simplices.{AllOfDimension, IsSimplex, IsClass, IsClassOf, IsExpression, IsStrictlyEmpty, excess, translate}
 use Rattle.lt_model.specs.Triangulations.{IsDelaunay}
 use Rattle.lt_model.specs.Negatives.{negated, negative}
+use Rattle.lt_model.proofs.Translates.{ascending_translate, from_translate}
+use Rattle.lt_model.proofs.Points.{minus_itself, opposite_twice}
 use Rattle.lt_geometry.proofs.Reading.{dot-append_both}
 use Rattle.lt_geometry.proofs.Closed.{get_dimension}
 use Rattle.lt_geometry.proofs.Parity.{value-negative, one_of_two, index_of}
+use Rattle.lt_geometry.proofs.Classes.{first_of_translate}
+use Rattle.lt_geometry.proofs.Sides.{at_place}
 
 module _ {X : Type 0} where
   reverse_more : (x : X) (xs : List X) → reverse (x ∷ xs) ≡ reverse xs ++ (x ∷ [])
@@ -118,9 +119,6 @@ turned_linear u b vs l =
     let e : (v : List ℤ) → dot u (scale (negsuc 0) v) ≡ dot (scale (negsuc 0) u) v = λ v. dot-scale u (negsuc 0) v ∙ sym (scale-dot (negsuc 0) u v) in
     dot-combine u b (turned_round vs) ∙ dot-turned (dot u) b vs l ∙ ap (dot (reverse b)) (map_each (λ v. dot u (scale (negsuc 0) v)) (dot (scale (negsuc 0) u)) vs e) ∙ sym (dot-combine (scale (negsuc 0) u) (reverse b) vs) ∙ scale-dot (negsuc 0) u (combine (reverse b) vs)
 
-pub twice_negative : (x : List ℤ) → scale (negsuc 0) (scale (negsuc 0) x) ≡ x
-twice_negative x = scale-scale (negsuc 0) (negsuc 0) x ∙ scale-one x
-
 negated_all : (d : ℕ) (vs : List (List ℤ)) → AllOfDimension d vs → AllOfDimension d (negated vs)
 negated_all d [] a = tt
 negated_all d (v ∷ vs) a = (length-scale (negsuc 0) v ∙ a.0, negated_all d vs a.1)
@@ -176,7 +174,7 @@ turned_empty d q vs s e = record {
   outside = λ x c b lx h. subst (λ (n : ℤ). pos 0 ≤ℤ n) (sym (same x c b lx h)) (e.outside (scale (negsuc 0) x) c (reverse b) (length-scale (negsuc 0) x ∙ lx) (turned_expression_back d vs x c b s lx h));
   touches = λ x c b lx h z.
       let m : Contains vs (scale (negsuc 0) x) = e.touches (scale (negsuc 0) x) c (reverse b) (length-scale (negsuc 0) x ∙ lx) (turned_expression_back d vs x c b s lx h) (sym (same x c b lx h) ∙ z) in
-      reverse_has (negated vs) x (subst (λ (w : List ℤ). Contains (negated vs) w) (twice_negative x) (negated_has vs (scale (negsuc 0) x) m));
+      reverse_has (negated vs) x (subst (λ (w : List ℤ). Contains (negated vs) w) (opposite_twice x) (negated_has vs (scale (negsuc 0) x) m));
 }
   where
     same : (x : List ℤ) (c : ℤ) (b : List ℤ) → length x ≡ d → IsExpression (turned_round vs) x c b → excess q (turned_round vs) x c b ≡ excess q vs (scale (negsuc 0) x) c (reverse b)
@@ -215,10 +213,6 @@ turned_ascending d (v ∷ vs) all s =
 
 -- ---- the class of a set of points is unique
 
-pub first_of_translate : (p : List ℤ) (vs : List (List ℤ)) → 0 < length vs → get_or (translate p vs) 0 [] ≡ plus (get_or vs 0 []) p
-first_of_translate p [] h = absurd (omega arith)
-first_of_translate p (v ∷ vs) h = refl
-
 pub one_class : (d : ℕ) (ps s s' : List (List ℤ)) → IsClassOf d ps s → IsClassOf d ps s' → s ≡ s'
 one_class d ps s s' h k =
     let ch = h.«class» in
@@ -243,7 +237,7 @@ first_turned s some =
     let i : length (negated s) - 1 - 0 ≡ length s - 1 = omega (arith, n) in
     let e : get_or (turned_round s) 0 [] ≡ scale (negsuc 0) (get_or s (length s - 1) []) =
     get_or-reverse (negated s) 0 [] (omega (arith, n, some)) ∙ ap (λ (k : ℕ). get_or (negated s) k []) i ∙ get_or-map (scale (negsuc 0)) s (length s - 1) [] [] (omega (arith, some)) in
-    sym (twice_negative (get_or s (length s - 1) [])) ∙ ap (scale (negsuc 0)) (sym e)
+    sym (opposite_twice (get_or s (length s - 1) [])) ∙ ap (scale (negsuc 0)) (sym e)
 
 last_dimension : (d : ℕ) (s : List (List ℤ)) → IsSimplex d s → length (last_of s) ≡ d
 last_dimension d s h = get_dimension d s (length s - 1) h.points (omega (arith, h.count))
@@ -286,7 +280,7 @@ negated-translate p (v ∷ vs) = ap₂ (λ (x : List ℤ) (l : List (List ℤ)).
 
 negated-negated : (vs : List (List ℤ)) → negated (negated vs) ≡ vs
 negated-negated [] = refl
-negated-negated (v ∷ vs) = ap₂ (λ (x : List ℤ) (l : List (List ℤ)). x ∷ l) (twice_negative v) (negated-negated vs)
+negated-negated (v ∷ vs) = ap₂ (λ (x : List ℤ) (l : List (List ℤ)). x ∷ l) (opposite_twice v) (negated-negated vs)
 
 turned-moved : (p : List ℤ) (s : List (List ℤ)) → turned_round (translate p (turned_round s)) ≡ translate (scale (negsuc 0) p) s
 turned-moved p s =
@@ -312,23 +306,10 @@ negative-negative d s c =
     let p : List ℤ = get_or s (length s - 1) [] in
     let lp : length p ≡ d = last_dimension d s c.simplex in
     ap₂ translate (last_stays d s c) (turned-moved p s)
-    ∙ ap (λ (x : List ℤ). translate x (translate (scale (negsuc 0) p) s)) (sym (twice_negative p))
+    ∙ ap (λ (x : List ℤ). translate x (translate (scale (negsuc 0) p) s)) (sym (opposite_twice p))
     ∙ translate-back d s (scale (negsuc 0) p) c.simplex.points (length-scale (negsuc 0) p ∙ lp)
 
 -- ---- no class is its own negative
-
-pub moved_from : (p : List ℤ) (vs : List (List ℤ)) (x : List ℤ) → Contains (translate p vs) x → (w : List ℤ) × Contains vs w × (plus w p ≡ x)
-moved_from p [] x c = Contains-none x c
-moved_from p (v ∷ vs) x c =
-    elim (Contains-cases (plus v p) (translate p vs) x c) [
-      | inl e ↦ (v, Contains-head v vs, e)
-      | inr r ↦ (let f = moved_from p vs x r in (f.0, Contains-tail v vs f.0 f.1, f.2))
-    ]
-
-pub contains_get : (vs : List (List ℤ)) (i : ℕ) → i < length vs → Contains vs (get_or vs i [])
-contains_get [] i h = absurd (omega arith)
-contains_get (v ∷ vs) zero h = Contains-head v vs
-contains_get (v ∷ vs) (suc i) h = Contains-tail v vs (get_or vs i []) (contains_get vs i (omega arith))
 
 pub not_own_negative : (d : ℕ) (s : List (List ℤ)) → 2 ≤ d → IsClassOf d (negated s) s → ⊥
 not_own_negative d s h k = choose first.0 (first.1) (λ u. is u 0 first.0 first.2)
@@ -339,7 +320,7 @@ not_own_negative d s h k = choose first.0 (first.1) (λ u. is u 0 first.0 first.
     -- v_a and v_b add up to less the shift
     opposite : (a : ℕ) → a < length s → (b : ℕ) × (b < length s) × (plus (get_or s b []) k.shift ≡ scale (negsuc 0) (get_or s a []))
     opposite a ha =
-        let m = moved_from k.shift s (scale (negsuc 0) (get_or s a [])) ((k.same (scale (negsuc 0) (get_or s a []))).0 (negated_has s (get_or s a []) (contains_get s a ha))) in
+        let m = from_translate k.shift s (scale (negsuc 0) (get_or s a [])) ((k.same (scale (negsuc 0) (get_or s a []))).0 (negated_has s (get_or s a []) (at_place s a ha))) in
         let i = index_of s m.0 m.1 in
         (i.0, i.1, ap (λ (v : List ℤ). plus v k.shift) i.2 ∙ m.2)
 

@@ -18,14 +18,15 @@ use Rattle.lt_model.specs.Vectors.{plus, minus, scale, dot, zeros}
 use Rattle.lt_model.specs.Forms.{squares, value}
 use Rattle.lt_model.specs.Simplices.{IsClass, translate}
 use Rattle.lt_model.specs.Triangulations.{IsDelaunay}
+use Rattle.lt_model.proofs.Points.{minus_itself, opposite_twice}
+use Rattle.lt_model.proofs.Translates.{from_translate}
 use Rattle.lt_laws.specs.Edges.{IsEdge, AreOfOneParity, IsOnlyShortest, HasOneEdge}
 use Rattle.lt_geometry.proofs.Closed.{get_dimension}
 use Rattle.lt_geometry.proofs.Parity.{IsPlaced, nearest, stays, turns, index_of}
 use Rattle.lt_geometry.proofs.EdgeLists.{not_both, exact_points}
 use Rattle.lt_geometry.proofs.Fewness.{scale-zeros}
 use Rattle.lt_geometry.proofs.LocalWalk.{zeros-plus}
-use Rattle.lt_geometry.proofs.Motions.{minus_itself}
-use Rattle.lt_laws.proofs.Negated.{moved_from, cmp-turned, twice_negative}
+use Rattle.lt_laws.proofs.Negated.{cmp-turned}
 use Rattle.lt_laws.proofs.Halves.{has_halves, length-minus}
 
 -- ---- an edge in a simplex that has 0 as a vertex
@@ -148,8 +149,8 @@ pub has_edge : (d : ℕ) (q : List ℤ) (t : List (List (List ℤ))) (y : List �
 has_edge d q t y del ly n =
     let h = has_halves d q t y del ly in
     let c = ((del.members h.owner).0 h.member).0 in
-    let v = moved_from h.shift h.owner h.left h.has_left in
-    let w = moved_from h.shift h.owner h.right h.has_right in
+    let v = from_translate h.shift h.owner h.left h.has_left in
+    let w = from_translate h.shift h.owner h.right h.has_right in
     go h.owner h.shift h.left h.right v.0 w.0 h.member h.dimension v.1 w.1 v.2 w.2 (member_dimension d h.owner v.0 c v.1) (member_dimension d h.owner w.0 c w.1) h.is (number_list_cmp (zeros d) (minus w.0 v.0)) refl
   where
     halves : (l r v w p u : List ℤ) → plus v p ≡ l → plus w p ≡ r → r ≡ minus y l → dot u v +ℤ dot u w +ℤ pos 2 *ℤ dot u p ≡ dot u y
@@ -215,7 +216,7 @@ shortest_are_edges d q t x del lx some least =
     elim (h.shortest x lx h.parity) [
       | inl k ↦ absurd (omega (arith, ints, k, l))
       | inr (inl e) ↦ inl (subst (λ (w : List ℤ). IsEdge d t w) (sym e) h.is_edge)
-      | inr (inr e) ↦ inr (subst (λ (w : List ℤ). IsEdge d t w) (sym (ap (scale (negsuc 0)) e ∙ twice_negative h.edge)) h.is_edge)
+      | inr (inr e) ↦ inr (subst (λ (w : List ℤ). IsEdge d t w) (sym (ap (scale (negsuc 0)) e ∙ opposite_twice h.edge)) h.is_edge)
     ]
   where
     even : AreOfOneParity d (zeros d) x → ⊥

@@ -20,6 +20,7 @@ use Rattle.lt_geometry.proofs.Primitive.{same_primitive}
 use Rattle.lt_geometry.proofs.Rearranged.{IsDistinct, Contains-without, Contains-with, not_in_without, distinct_without}
 use Rattle.lt_geometry.proofs.Regulators.{from_multiple}
 use Rattle.lt_geometry.proofs.Values.{list_dec}
+use Rattle.lt_geometry.proofs.Motions.{all_from_members}
 use Rattle.lt_lp.specs.Positive.{IsPositiveAt}
 use Rattle.lt_lp.specs.Alternatives.{IsCombination}
 use Rattle.lt_lp.proofs.FromZeros.{dot_from_zeros}
@@ -141,10 +142,6 @@ pub record AreSeparate (m : ℕ) (form : List ℤ) (ns : List (List ℤ)) : Type
   pub primitive : (n : List ℤ) → Contains ns n → IsPrimitive n
   pub above : (n : List ℤ) → Contains ns n → pos 0 <ℤ dot n form
 
-all_dimension : (m : ℕ) (ns : List (List ℤ)) → ((n : List ℤ) → Contains ns n → length n ≡ m) → AllOfDimension m ns
-all_dimension m [] h = tt
-all_dimension m (n ∷ ns) h = (h n (Contains-head n ns), all_dimension m ns (λ x c. h x (Contains-tail n ns x c)))
-
 separate_without : (m : ℕ) (form : List ℤ) (ns : List (List ℤ)) (i : ℕ) → AreSeparate m form ns → AreSeparate m form (without i ns)
 separate_without m form ns i h = record {
   distinct = distinct_without ns i h.distinct;
@@ -156,7 +153,7 @@ separate_without m form ns i h = record {
 -- all of the first j places have a wall form, or some place is a sum of others
 search : (m : ℕ) (form : List ℤ) (ns : List (List ℤ)) → AreSeparate m form ns → (j : ℕ) → j ≤ length ns → ((i : ℕ) → i < j → HasWall m ns (get_or ns i [])) ⊎ ((i : ℕ) × (i < length ns) × HasSum (without i ns) (get_or ns i []))
 search m form ns h zero l = inl (λ i k. absurd (omega arith))
-search m form ns h (suc j) l = go (search m form ns h j (omega arith)) (alternative m u (without j ns) form (h.dimension u here) (all_dimension m (without j ns) (λ n c. h.dimension n (Contains-with ns j n c))) (h.above u here) (λ n c. h.above n (Contains-with ns j n c)))
+search m form ns h (suc j) l = go (search m form ns h j (omega arith)) (alternative m u (without j ns) form (h.dimension u here) (all_from_members m (without j ns) (λ n c. h.dimension n (Contains-with ns j n c))) (h.above u here) (λ n c. h.above n (Contains-with ns j n c)))
   where
     u : List ℤ
     u = get_or ns j []

@@ -10,8 +10,8 @@ use Rattle.lt_model.specs.Order.{number_list_cmp}
 use Rattle.lt_model.specs.Vectors.{minus, zeros}
 use Rattle.lt_model.specs.Simplices.{IsClass}
 use Rattle.lt_model.proofs.Sets.{Contains-head, Contains-cases, Contains-none, number_list_cmp_total}
+use Rattle.lt_model.proofs.Points.{get_dimension}
 use Rattle.lt_triang.specs.Kept.{IsTriangulation}
-use Rattle.lt_triang.proofs.Steps.{get_dimension}
 use Rattle.lt_laws.specs.Edges.{IsEdge}
 use Rattle.lt_locate.specs.Collected.{Gathers, IsEdgeTo, IsEdgeBelow, IsEdgeOfFirst}
 use Rattle.lt_locate.specs.Edges.{AreEdges}

@@ -1,10 +1,9 @@
 pub mod Places
-mod SortedPoints
 mod Gathered
 mod Dimensions
 pub mod First
 mod Walls
-mod Weighed
+pub mod Weighed
 mod Facets
 pub mod Bad
 mod Crossed

@@ -7,10 +7,10 @@ use Rattle.lt_model.specs.Vectors.{dot}
 use Rattle.lt_model.specs.Limits.{weight, class_span, span, span_limit}
 use Rattle.lt_model.specs.Principal.{IsPrincipal}
 use Rattle.lt_model.specs.Walls.{IsFacet, IsAcross}
-use Rattle.lt_model.proofs.Sets.{same_members, simplex_cmp_total}
+use Rattle.lt_model.proofs.Sets.{same_members, simplex_cmp_total, Contains-map}
 use Rattle.lt_model.specs.Order.{simplex_cmp}
 use Rattle.lt_geometry.proofs.Listed.{same_across}
-use Rattle.lt_triang.proofs.Gaps.{le_greatest, contains_map}
+use Rattle.lt_triang.proofs.Gaps.{le_greatest}
 use Rattle.lt_flip.specs.Flipped.{IsFirstWide}
 use Rattle.lt_regulator.proofs.Distinct.{one_list}
 use Rattle.lt_laws.specs.Facets.{IsInside}
@@ -71,7 +71,7 @@ not_narrow : (d : ℕ) (t next : List (List (List ℤ))) (n : List ℤ) (c : ℤ
 not_narrow d t next n c two h a l =
     let same : h.next ≡ next = same_across d n t h.next next two h.across a in
     let s = get_or h.next h.place [] in
-    let most : class_span s ≤ span h.next = le_greatest (map class_span h.next) (class_span s) (contains_map class_span h.next s (Contains-get_or h.next h.place [] h.first.place)) in
+    let most : class_span s ≤ span h.next = le_greatest (map class_span h.next) (class_span s) (Contains-map class_span h.next s (Contains-get_or h.next h.place [] h.first.place)) in
     let k : span h.next ≤ span_limit d = subst (λ (u : List (List (List ℤ))). span u ≤ span_limit d) (sym same) l in
     let w = h.first.wide in
     omega (arith, most, k, w)

@@ -16,10 +16,10 @@ use Rattle.lt_lp.specs.Positive.{IsPositiveAt}
 use Rattle.lt_regulator.proofs.Distinct.{one_list, regulator_lengths, positive_at}
 use Rattle.lt_locate.specs.Endings.{AreEdgesPositive, IsHeavy, IsOpen}
 
-fits : (w : ℕ) → w ≤ 2 ^ 120 → SFits w128 (pos w)
+pub fits : (w : ℕ) → w ≤ 2 ^ 120 → SFits w128 (pos w)
 fits w h = omega (arith, ints, h)
 
-heavy : (w : ℕ) → le_z (pos (2 ^ 112)) (pos w) ≡ true → weight_limit ≤ w
+pub heavy : (w : ℕ) → le_z (pos (2 ^ 112)) (pos w) ≡ true → weight_limit ≤ w
 heavy w e = let l : pos (2 ^ 112) ≤ℤ pos w = le_z_yes (subst T (sym e) tt) in omega (arith, ints, l)
 
 light : (w : ℕ) → le_z (pos (2 ^ 112)) (pos w) ≡ false → w < weight_limit

@@ -10,8 +10,8 @@ use Rattle.lt_flip.specs.Flipped.{IsFirstWide}
 use Rattle.lt_locate.specs.Firsts.{IsFirst}
 use Rattle.lt_locate.specs.Walks.{IsNegativeFacet, IsZeroFacet, IsWalked}
 
--- why a walk ends: an edge at which the form isn't positive; a weight; a facet that is 0 at the form; the form lies inside; the steps
--- are used up; a span
+-- why a walk ends: an edge at which the form isn't positive; a weight; a facet that is 0 at the form; the form lies
+-- inside; the steps are used up; a span
 pub data Ending : Type 0 where
   not_positive : List ℤ → Ending
   heavy : ℤ → Ending
@@ -49,10 +49,12 @@ pub record IsWideAcross (d : ℕ) (t : List (List (List ℤ))) (n : List ℤ) (c
 abbrev pub IsReason : ℕ → List ℤ → ℕ → ℕ → List (List (List ℤ)) → Ending → Type 0
 IsReason d q steps i t (not_positive x) = IsFirst (IsBadEdge d t q) x
 IsReason d q steps i t (heavy w) = AreEdgesPositive d t q × IsHeavy d t w
-IsReason d q steps i t (on_wall n) = IsOpen d t q × ((m : List ℤ) → IsFacet d t m → pos 0 ≤ℤ dot m q) × IsFirst (IsZeroFacet d t q) n
+IsReason d q steps i t (on_wall n) = IsOpen d t q × ((m : List ℤ) → IsFacet d t m → pos 0 ≤ℤ dot m q)
+    × IsFirst (IsZeroFacet d t q) n
 IsReason d q steps i t inside = IsOpen d t q × IsInside d t q
 IsReason d q steps i t out_of_steps = IsOpen d t q × ((n : List ℤ) × IsFirst (IsNegativeFacet d t q) n) × (i ≡ steps)
-IsReason d q steps i t (wide c) = IsOpen d t q × ((n : List ℤ) × IsFirst (IsNegativeFacet d t q) n × IsWideAcross d t n c) × (i < steps)
+IsReason d q steps i t (wide c) = IsOpen d t q × ((n : List ℤ) × IsFirst (IsNegativeFacet d t q) n
+    × IsWideAcross d t n c) × (i < steps)
 
 -- there is no reason to end at t, after i crossings
 pub record Passes (d : ℕ) (q : List ℤ) (steps i : ℕ) (t : List (List (List ℤ))) : Type 0 where

@@ -27,5 +27,6 @@ IsSide d t q (Beyond n) = IsOpen d t q × IsFirst (IsNegativeFacet d t q) n
 abbrev pub IsOff : ℕ → List (List (List ℤ)) → List ℤ → Off → Type 0
 IsOff d t q (NotPositive x) = IsFirst (IsBadEdge d t q) x
 IsOff d t q (Heavy w) = AreEdgesPositive d t q × IsHeavy d t w
-IsOff d t q (OnWall n) = IsOpen d t q × ((m : List ℤ) → IsFacet d t m → pos 0 ≤ℤ dot m q) × IsFirst (IsZeroFacet d t q) n
+IsOff d t q (OnWall n) = IsOpen d t q × ((m : List ℤ) → IsFacet d t m → pos 0 ≤ℤ dot m q)
+    × IsFirst (IsZeroFacet d t q) n
 IsOff d t q Memory = Unit

@@ -42,7 +42,8 @@ fn has_wall(alloc: Global, normals: &[Normal], k: usize) -> Result<bool, Memory>
     requires same { All (λ x. length x ≡ length (get_or normals.now 0 [])) normals.now }
     requires positive { (form : List ℤ) × IsPositiveAt form normals.now }
     requires light { (d : ℕ) × AreOfDimension d normals.now × (weight d normals.now < weight_limit) }
-    ensures { IfOk result (λ b. (d : ℕ) → AreOfDimension d normals.now → (IsTrue b ↔ HasWallForm (numbers_of_form d) normals.now k)) }
+    ensures { IfOk result (λ b. (d : ℕ) → AreOfDimension d normals.now
+        → (IsTrue b ↔ HasWallForm (numbers_of_form d) normals.now k)) }
 {
     match decide(alloc, normals, k) {
         Ok(Verdict::Wall(_)) => Ok(true),
@@ -63,7 +64,9 @@ pub fn first_facet(
     requires within { All (IsWithin (2 ^ 40)) q.now }
     requires positive { (form : List ℤ) × IsPositiveAt form normals.now }
     requires light { (d : ℕ) × AreOfDimension d normals.now × (weight d normals.now < weight_limit) }
-    ensures { IfOk result (λ r. (d : ℕ) → AreOfDimension d normals.now → MatchOption r ((k : ℕ) → k < length normals.now → IsMetAt d normals.now q.now sign k → ⊥) (λ n. IsFirstMet d normals.now q.now sign n)) }
+    ensures { IfOk result (λ r. (d : ℕ) → AreOfDimension d normals.now → MatchOption r
+        ((k : ℕ) → k < length normals.now → IsMetAt d normals.now q.now sign k → ⊥)
+        (λ n. IsFirstMet d normals.now q.now sign n)) }
 {
     for k in 0..normals.len() {
         if sign.is_of(pair(&normals[k], q)) && has_wall(alloc, normals, k)? {

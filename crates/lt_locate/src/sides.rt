@@ -63,7 +63,8 @@ impl From<Memory> for Off {
 fn first_not_positive(q: &Form, points: &[Point]) -> Option<Point>
     requires same { All (λ x. length q.now ≡ numbers_of_form (length x)) points.now }
     requires within { All (IsWithin (2 ^ 40)) q.now }
-    ensures { MatchOption result ((k : ℕ) → k < length points.now → pos 0 <ℤ form.value q.now (get_or points.now k [])) (λ x. IsFirstPoint q.now points.now x) }
+    ensures { MatchOption result ((k : ℕ) → k < length points.now → pos 0 <ℤ form.value q.now (get_or points.now k []))
+        (λ x. IsFirstPoint q.now points.now x) }
 {
     for k in 0..points.len() {
         if value(q, &points[k]) <= 0 {

@@ -31,7 +31,8 @@ fn next(
     requires same { length q.now ≡ numbers_of_form (dimension_of t.now) }
     requires within { All (IsWithin (2 ^ 40)) q.now }
     requires most { crossed ≤ steps }
-    ensures next { IfOk result (λ r. MatchOption r (IsInsideAt (dimension_of t.now) t.now q.now) (λ s. IsNext t.now q.now crossed steps s)) }
+    ensures next { IfOk result (λ r. MatchOption r (IsInsideAt (dimension_of t.now) t.now q.now)
+        (λ s. IsNext t.now q.now crossed steps s)) }
     ensures stop { IfErr result (λ e. IsStopAt (dimension_of t.now) q.now steps crossed t.now e) }
 {
     // It shows that the dimension is 2 at least.
@@ -70,8 +71,10 @@ fn next(
 /// across that facet. The numbers of the form are at most 2^40 in absolute value.
 pub fn locate(alloc: Global, q: &Form, steps: u32) -> Result<Located, LocateError>
     requires { All (IsWithin (2 ^ 40)) q.now }
-    ensures located { IfOk result (λ l. (d : ℕ) → length q.now ≡ numbers_of_form d → EndsWith d q.now steps l.crossed l.triangulation inside) }
-    ensures delaunay { IfOk result (λ l. (d : ℕ) → length q.now ≡ numbers_of_form d → IsDelaunay d q.now l.triangulation) }
+    ensures located { IfOk result (λ l. (d : ℕ) → length q.now ≡ numbers_of_form d
+        → EndsWith d q.now steps l.crossed l.triangulation inside) }
+    ensures delaunay { IfOk result (λ l. (d : ℕ) → length q.now ≡ numbers_of_form d
+        → IsDelaunay d q.now l.triangulation) }
     ensures refused { IfErr result (λ e. (d : ℕ) → length q.now ≡ numbers_of_form d → IsRefusal d q.now steps e) }
 {
     let mut t = principal(alloc, q.dimension())?;

@@ -17,13 +17,15 @@ use Rattle.lt_model.specs.Cones.{coefficients, places, AreBelow, sum_of_terms, I
 use Rattle.lt_model.proofs.Integers.{mul_comm_z}
 use Rattle.lt_model.proofs.Squares.{length-scale}
 use Rattle.lt_model.proofs.Walk.{length-combine}
+use Rattle.lt_model.proofs.Vectors.{map-is-scale}
 use Rattle.lt_num.specs.Divisors.{DividesEach, IsGcdOf, MadePrimitive}
 use Rattle.lt_tableau.specs.Errors.{AreOfDimension}
 use Rattle.lt_tableau.proofs.Sums.{lookup_none, lookup_plus, lookup_scale}
 use Rattle.lt_lp.specs.Checks.{AreTerms, term_sum}
-use Rattle.lt_lp.proofs.Reduces.{primitive_from_gcd, map-is-scale, zero_divides}
+use Rattle.lt_lp.proofs.Reduces.{primitive_from_gcd, zero_divides}
 use Rattle.lt_lp.proofs.Combined.{same_lists, all_of_dimension}
 use Rattle.lt_lp.proofs.FromZeros.{lookup_from_zeros, length_from_zeros}
+use Rattle.lt_lp.proofs.Terms.{nothing}
 
 -- ---- divisors
 zero_of : (x : ℤ) → 2 ^ 127 ∣ nat_abs x → nat_abs x < 2 ^ 62 → 0 ∣ nat_abs x
@@ -57,9 +59,6 @@ pub term_at : (from count k : ℕ) (ts : List (ℕ × ℤ)) → AreTerms from co
 term_at from count k [] h i d l = absurd (omega arith)
 term_at from count k (t ∷ ts) h zero d l = record { inside = h.1; small = h.4 }
 term_at from count k (t ∷ ts) h (suc i) d l = term_at (suc t.0) count k ts h.5 i d (omega arith)
-
-nothing : {X : Type 0} (P : X → Type 0) → All P []
-nothing P k d l = absurd (omega arith)
 
 -- the places are at least `from`
 from_places : (from count k : ℕ) (ts : List (ℕ × ℤ)) → AreTerms from count k ts → (least : ℕ) → least < from → AllByRecursion (λ y. nat_cmp least y ≡ Less) (places ts)

@@ -20,9 +20,9 @@ use Rattle.lt_tableau.proofs.Sums.{lookup_none, lookup_scale}
 use Rattle.lt_model.proofs.Dependent.{zero_or_not, mul-not_zero}
 use Rattle.lt_model.proofs.Vectors.{dot_comm, dot-scale}
 use Rattle.lt_model.proofs.Excess.{dot-combine}
-use Rattle.lt_model.proofs.Walk.{mul-positive}
 use Rattle.std.proofs.lemmas.List.Elements.{recursion_from_All}
 use Rattle.lt_model.proofs.Sets.{Contains-head, Contains-tail, Contains-cases, Contains-none, each_holds, never_below_itself, number_list_cmp_total}
+use Rattle.lt_model.proofs.Inequalities.{mul_pos_z}
 
 -- ---- distinct places of an ascending list hold distinct members
 
@@ -84,14 +84,14 @@ sum_not_negative : (g : ℕ → ℤ) (terms : List (ℕ × ℤ)) → AllByRecurs
 sum_not_negative g [] a b = omega (arith, ints)
 sum_not_negative g (t ∷ terms) a b =
     let h = sum_not_negative g terms a.1 b.1 in
-    let k : pos 0 <ℤ (t.1 *ℤ g t.0) = mul-positive t.1 (g t.0) b.0 a.0 in
+    let k : pos 0 <ℤ (t.1 *ℤ g t.0) = mul_pos_z t.1 (g t.0) b.0 a.0 in
     omega (arith, ints)
 
 sum_positive : (g : ℕ → ℤ) (terms : List (ℕ × ℤ)) → AllByRecursion (λ i. pos 0 <ℤ g i) (places terms) → AllByRecursion (λ x. pos 0 <ℤ x) (coefficients terms) → 0 < length terms → pos 0 <ℤ dot (coefficients terms) (map g (places terms))
 sum_positive g [] a b l = absurd (omega arith)
 sum_positive g (t ∷ terms) a b l =
     let h = sum_not_negative g terms a.1 b.1 in
-    let k : pos 0 <ℤ (t.1 *ℤ g t.0) = mul-positive t.1 (g t.0) b.0 a.0 in
+    let k : pos 0 <ℤ (t.1 *ℤ g t.0) = mul_pos_z t.1 (g t.0) b.0 a.0 in
     omega (arith, ints)
 
 dots_at : (w : List ℤ) (ns : List (List ℤ)) (is : List ℕ) → map (dot w) (map (λ i. get_or ns i []) is) ≡ map (λ i. dot w (get_or ns i [])) is

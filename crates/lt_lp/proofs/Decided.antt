@@ -11,14 +11,15 @@ use Rattle.lt_lp.specs.Reduced.{IsReduced}
 use Rattle.lt_lp.specs.Positive.{IsPositiveAt}
 use Rattle.lt_lp.specs.Terms.{value_of, IsCombinationOf}
 use Rattle.lt_lp.proofs.Values.{values_not_negative}
-use Rattle.lt_lp.proofs.Mixes.{sum_nonneg, value_small}
+use Rattle.lt_lp.proofs.Mixes.{value_small}
 use Rattle.lt_lp.proofs.WallSigns.{WallSigns, wall_signs}
 use Rattle.lt_lp.proofs.Forms.{wall_some}
 use Rattle.lt_lp.proofs.Turned.{right_wall}
 use Rattle.lt_lp.proofs.Combined.{IsCase, right_combination}
+use Rattle.lt_lp.proofs.Signs.{sum_not_negative}
 
 objective_nonneg : (t : Table) → IsReady t → pos 0 ≤ℤ objective_of t
-objective_nonneg t w = sum_nonneg t.rows (λ (row : ℕ). cond (nat_le (units_of t) (basic_of t row)) (right_of t row) (pos 0)) (λ q l. pick (nat_le (units_of t) (basic_of t q)) (right_of t q) (values_not_negative t w q l))
+objective_nonneg t w = sum_not_negative t.rows (λ (row : ℕ). cond (nat_le (units_of t) (basic_of t row)) (right_of t row) (pos 0)) (λ q l. pick (nat_le (units_of t) (basic_of t q)) (right_of t q) (values_not_negative t w q l))
   where
     pick : (b : Bool) (x : ℤ) → pos 0 ≤ℤ x → pos 0 ≤ℤ cond b x (pos 0)
     pick true x h = h

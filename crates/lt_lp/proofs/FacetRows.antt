@@ -1,7 +1,7 @@
 -- The rows with a wall form, counted row by row.
-use Rattle.std.proofs.Common.{◌≡◌, ℕ, ℤ, zero, suc, ◌+◌, ◌<◌, ◌≤◌, refl, ap, arith, sym, ◌∙◌, subst, List, [], ◌∷◌, ◌++◌, length, take, get_or, Bool, true, false}
+use Rattle.std.proofs.Common.{◌≡◌, ℕ, ℤ, zero, suc, ◌+◌, ◌<◌, refl, ap, arith, sym, ◌∙◌, subst, List, [], ◌∷◌, ◌++◌, length, take, get_or, Bool, true, false}
 use Rattle.std.specs.Prelude.{cond}
-use Rattle.std.proofs.lemmas.List.{take_more, take_all}
+use Rattle.std.proofs.lemmas.List.{take_more}
 use Rattle.lt_model.specs.Cones.{Verdict, wall, combination, Row}
 use Rattle.lt_model.specs.Atlases.{facets_of, facet_if}
 use Rattle.lt_lp.specs.Facets.{has_wall, wall_rows}
@@ -29,9 +29,6 @@ facets_of-more (x ∷ rows) r =
 pub walls_more : (rows : List Row) (k : ℕ) (r : Row) → k < length rows → r ≡ get_or rows k r → walls (k + 1) rows ≡ walls k rows + one_if (has_wall r.verdict)
 walls_more rows k r h e =
     ap (λ (l : List Row). length (facets_of l)) (take_more rows k r h ∙ ap (λ (x : Row). take k rows ++ x ∷ []) (sym e)) ∙ facets_of-more (take k rows) r
-
-pub walls_all : (rows : List Row) (k : ℕ) → length rows ≤ k → walls k rows ≡ length (facets_of rows)
-walls_all rows k h = ap (λ (l : List Row). length (facets_of l)) (take_all k rows h)
 
 -- the row at place k is the one after the walls before it
 pub record IsFacetRow (rows : List Row) (r : Row) (i : ℕ) : Type 0 where

@@ -104,7 +104,7 @@ sum_linear (suc n) d p w f g h e =
 units_same : (t new : Table) (p e : ℕ) → IsPivotOf t new p e → units_of new ≡ units_of t
 units_same t new p e v = rw (v.system, v.rows) refl
 
-not_unit : (u e : ℕ) → e < u → nat_le u e ≡ false
+pub not_unit : (u e : ℕ) → e < u → nat_le u e ≡ false
 not_unit u e h = pick (nat_le u e) refl
   where
     pick : (b : Bool) → nat_le u e ≡ b → nat_le u e ≡ false

@@ -9,6 +9,7 @@ use Rattle.lt_model.proofs.Ring.{ring, var, num, ◌⊕◌, ◌⊗◌}
 use Rattle.lt_model.proofs.Inequalities.{mul_pos_z, mul_nonneg_z, mul_le_mul_z, square_nonneg_z}
 use Rattle.lt_model.proofs.Vectors.{dot-plus, dot-scale}
 use Rattle.lt_model.proofs.Excess.{dot-nil, plus-dot, scale-dot}
+use Rattle.lt_model.proofs.Hadamard.{dot_nonneg}
 use Rattle.lt_tableau.specs.Numbers.{column_at}
 use Rattle.lt_tableau.proofs.Sums.{lookup_none, lookup_plus, lookup_scale}
 use Rattle.lt_lp.proofs.Combined.{combine-scale}
@@ -39,14 +40,6 @@ same_dot [] x y s = refl
 same_dot (a ∷ w) x y s =
     dot_first a w x ∙ ap₂ (λ (p q : ℤ). a *ℤ p +ℤ q) (s 0) (same_dot w (tail_z x) (tail_z y) (λ q. s (suc q))) ∙ sym (dot_first a w y)
 
--- the squares of a list are 0 only where the list is
-pub dot_self_nonneg : (u : List ℤ) → pos 0 ≤ℤ dot u u
-dot_self_nonneg [] = omega (arith, ints)
-dot_self_nonneg (x ∷ u) =
-    let a = square_nonneg_z x in
-    let b = dot_self_nonneg u in
-    omega (arith, ints)
-
 square_zero : (x : ℤ) → x *ℤ x ≡ pos 0 → x ≡ pos 0
 square_zero (pos zero) e = refl
 square_zero (pos (suc n)) e =
@@ -60,11 +53,11 @@ pub dot_self_zero : (u : List ℤ) → dot u u ≡ pos 0 → Same u []
 dot_self_zero [] e q = refl
 dot_self_zero (x ∷ u) e zero =
     let a = square_nonneg_z x in
-    let b = dot_self_nonneg u in
+    let b = dot_nonneg u in
     square_zero x (omega (arith, ints))
 dot_self_zero (x ∷ u) e (suc q) =
     let a = square_nonneg_z x in
-    let b = dot_self_nonneg u in
+    let b = dot_nonneg u in
     dot_self_zero u (omega (arith, ints)) q ∙ lookup_none q ∙ sym (lookup_none (suc q))
 
 -- ---- the form over a combination
@@ -244,7 +237,7 @@ gordan zero (u ∷ vs) e = absurd (omega arith)
 gordan (suc m) (u ∷ vs) e = start (dot u u) refl (gordan m vs (omega arith)) (λ (w : List ℤ). gordan m (map (turned w u (negsuc 0 *ℤ dot w u)) vs) (length-map vs (turned w u (negsuc 0 *ℤ dot w u)) ∙ omega arith))
   where
     start : (z : ℤ) → dot u u ≡ z → Alternative vs → ((w : List ℤ) → Alternative (map (turned w u (negsuc 0 *ℤ dot w u)) vs)) → Alternative (u ∷ vs)
-    start (negsuc n) e a f = let b = dot_self_nonneg u in absurd (omega (arith, ints))
+    start (negsuc n) e a f = let b = dot_nonneg u in absurd (omega (arith, ints))
     start (pos zero) e a f = inr (pos 1 ∷ [], zero_relation u vs (dot_self_zero u e))
     start (pos (suc n)) e (inl a) f = gordan_step u a.0 vs (omega (arith, ints)) a.1 (f a.0)
     start (pos (suc n)) e (inr a) f = inr (pos 0 ∷ a.0, later_relation u a.0 vs a.1)

@@ -1,17 +1,15 @@
 -- The steps of the loops of the rule.
-use Rattle.std.proofs.Common.{◌≡◌, ◌≢◌, refl, sym, ◌∙◌, ap, ℕ, zero, suc, ◌+◌, ◌*◌, ◌≤◌, ◌<◌, ◌^◌, ℤ, pos, ◌+ℤ◌, ◌*ℤ◌, ◌<ℤ◌, arith, cond, nat_le, Bool, true, false, nat_abs, add-one, FitsSigned, mul-le-mul}
+use Rattle.std.proofs.Common.{◌≡◌, ◌≢◌, refl, sym, ◌∙◌, ap, ℕ, ◌+◌, ◌*◌, ◌≤◌, ◌<◌, ◌^◌, ℤ, pos, ◌+ℤ◌, ◌*ℤ◌, ◌<ℤ◌, arith, cond, nat_le, Bool, true, false, nat_abs, add-one, FitsSigned, mul-le-mul}
 use Rattle.std.specs.Int.{w128}
 use Rattle.std.proofs.lemmas.Int.{ints, unsigned_abs-mul, fits_signed_from_abs}
 use Rattle.std.proofs.lemmas.Bool.Decides.{nat_tests}
 use native.Mathlib.Decide.{ℕ_discrete}
 use Rattle.lt_tableau.specs.Numbers.{sum_below}
 use Rattle.lt_tableau.specs.Table.{Table, entry_of, basic_of, units_of}
+use Rattle.lt_tableau.proofs.Sums.{sum_next}
 use Rattle.lt_lp.specs.Rule.{at_unit, IsBefore, IsLeaving, IsEarlier, number_of}
 use Rattle.lt_lp.proofs.Leaves.{before_before}
-
-pub sum_below_suc : (n : ℕ) (f : ℕ → ℤ) → sum_below (suc n) f ≡ sum_below n f +ℤ f n
-sum_below_suc zero f = omega (arith, ints)
-sum_below_suc (suc n) f = let r = sum_below_suc n (λ (q : ℕ). f (suc q)) in omega (arith, ints)
+use Rattle.lt_lp.proofs.Falls.{not_unit}
 
 -- the sum over the rows below `row`
 abbrev pub part_sum : Table → (ℕ → ℤ) → ℕ → ℤ
@@ -28,16 +26,9 @@ nat_le_true a b h = pick (nat_le a b) refl
     pick true e = e
     pick false e = let l : b < a = grind (arith, nat_tests) in absurd (omega arith)
 
-nat_le_false : (a b : ℕ) → b < a → nat_le a b ≡ false
-nat_le_false a b h = pick (nat_le a b) refl
-  where
-    pick : (c : Bool) → nat_le a b ≡ c → nat_le a b ≡ false
-    pick true e = let l : a ≤ b = grind (arith, nat_tests) in absurd (omega arith)
-    pick false e = e
-
 pub sum_more : (t : Table) (f : ℕ → ℤ) (row : ℕ) (sum : ℤ) → nat_abs (f row) < 2 ^ 56 → units_of t ≤ basic_of t row → SumSoFar t f row sum → SumSoFar t f (row + 1) (sum +ℤ f row)
 sum_more t f row sum h l s = record {
-  is = let e = sum_below_suc row (λ (r : ℕ). at_unit t r (f r)) in
+  is = let e = sum_next row (λ (r : ℕ). at_unit t r (f r)) in
       let g : at_unit t row (f row) ≡ f row = ap (λ (b : Bool). cond b (f row) (pos 0)) (nat_le_true (units_of t) (basic_of t row) l) in
       let i = s.is in
       rw (add-one, e, g) (ap (λ (x : ℤ). x +ℤ f row) i);
@@ -46,8 +37,8 @@ sum_more t f row sum h l s = record {
 
 pub sum_skip : (t : Table) (f : ℕ → ℤ) (row : ℕ) (sum : ℤ) → basic_of t row < units_of t → SumSoFar t f row sum → SumSoFar t f (row + 1) sum
 sum_skip t f row sum l s = record {
-  is = let e = sum_below_suc row (λ (r : ℕ). at_unit t r (f r)) in
-      let g : at_unit t row (f row) ≡ pos 0 = ap (λ (b : Bool). cond b (f row) (pos 0)) (nat_le_false (units_of t) (basic_of t row) l) in
+  is = let e = sum_next row (λ (r : ℕ). at_unit t r (f r)) in
+      let g : at_unit t row (f row) ≡ pos 0 = ap (λ (b : Bool). cond b (f row) (pos 0)) (not_unit (units_of t) (basic_of t row) l) in
       let i = s.is in
       rw (add-one, e, g) (i ∙ sym (add_zero (part_sum t f row)));
   small = let k = s.small in omega arith;

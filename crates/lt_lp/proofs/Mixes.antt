@@ -15,13 +15,14 @@ use Rattle.lt_tableau.specs.Numbers.{sum_below, column_at}
 use Rattle.lt_tableau.specs.System.{system_of, counted, normal_column, turned_column, plain_column, unit_column}
 use Rattle.lt_tableau.specs.Table.{Table, IsTableau, right_of, basic_of, count_of, units_of}
 use Rattle.lt_tableau.proofs.Sums.{sum_more, sum_same, sum_zero, sum_own, lookup_none, lookup_scale, unit_same, unit_other}
-use Rattle.lt_tableau.proofs.Starts.{length-system, removed_length, system_right}
+use Rattle.lt_tableau.proofs.Starts.{length-system, removed_length, system_right, lookup_past}
 use Rattle.lt_lp.specs.Rule.{objective_of, IsReady}
 use Rattle.lt_lp.specs.Terms.{value_of}
 use Rattle.lt_lp.proofs.Falls.{sum_small}
 use Rattle.lt_lp.proofs.Columns.{sum_below_swap, sum_below_scale, filled_in}
 use Rattle.lt_lp.proofs.Values.{value_law, values_not_negative, unit_values}
 use Rattle.lt_lp.proofs.WallSigns.{append_zero, at_normals}
+use Rattle.lt_lp.proofs.Signs.{sum_not_negative}
 
 pub value_small : (t : Table) → IsTableau t → (c : ℕ) → nat_abs (value_of t c) ≤ 22 * 2 ^ 56
 value_small t w c = at_most t.rows (sum_small t.rows (2 ^ 56) (λ (row : ℕ). cond (nat_eq (basic_of t row) c) (right_of t row) (pos 0)) (λ q. pick (nat_eq (basic_of t q) c) (right_of t q) (w.small q (count_of t)))) w.few_rows
@@ -51,13 +52,6 @@ nat_eq_other a b h = pick (nat_eq a b) refl
     pick false e = e
     pick true e = let n : a ≡ b = grind (arith, nat_tests) in absurd (h (sym n))
 
-pub sum_nonneg : (m : ℕ) (f : ℕ → ℤ) → ((q : ℕ) → q < m → pos 0 ≤ℤ f q) → pos 0 ≤ℤ sum_below m f
-sum_nonneg zero f h = omega (arith, ints)
-sum_nonneg (suc m) f h =
-    let a = h 0 (omega arith) in
-    let r = sum_nonneg m (λ (q : ℕ). f (suc q)) (λ q l. h (suc q) (omega arith)) in
-    omega (arith, ints)
-
 sum_at_most : (m : ℕ) (f : ℕ → ℤ) → ((q : ℕ) → q < m → f q ≤ℤ pos 1) → sum_below m f ≤ℤ pos m
 sum_at_most zero f h = omega (arith, ints)
 sum_at_most (suc m) f h =
@@ -67,14 +61,14 @@ sum_at_most (suc m) f h =
 
 -- ---- values
 pub value_nonneg : (t : Table) → IsReady t → (c : ℕ) → pos 0 ≤ℤ value_of t c
-value_nonneg t w c = sum_nonneg t.rows (λ (row : ℕ). cond (nat_eq (basic_of t row) c) (right_of t row) (pos 0)) (λ q l. pick (nat_eq (basic_of t q) c) (right_of t q) (values_not_negative t w q l))
+value_nonneg t w c = sum_not_negative t.rows (λ (row : ℕ). cond (nat_eq (basic_of t row) c) (right_of t row) (pos 0)) (λ q l. pick (nat_eq (basic_of t q) c) (right_of t q) (values_not_negative t w q l))
   where
     pick : (b : Bool) (x : ℤ) → pos 0 ≤ℤ x → pos 0 ≤ℤ cond b x (pos 0)
     pick true x h = h
     pick false x h = omega (arith, ints)
 
 pub occurs_nonneg : (t : Table) (c : ℕ) → pos 0 ≤ℤ occurs_of t c
-occurs_nonneg t c = sum_nonneg t.rows (λ (row : ℕ). cond (nat_eq (basic_of t row) c) (pos 1) (pos 0)) (λ q l. pick (nat_eq (basic_of t q) c))
+occurs_nonneg t c = sum_not_negative t.rows (λ (row : ℕ). cond (nat_eq (basic_of t row) c) (pos 1) (pos 0)) (λ q l. pick (nat_eq (basic_of t q) c))
   where
     pick : (b : Bool) → pos 0 ≤ℤ cond b (pos 1) (pos 0)
     pick true = omega (arith, ints)
@@ -90,7 +84,7 @@ occurs_step (suc m) b x n = pick (b 0) refl (occurs_step m (λ (r : ℕ). b (suc
 
     pick : (c : Bool) → b 0 ≡ c → (sum_below m (λ (r : ℕ). cond (b (suc r)) (x (suc r)) (pos 0)) ≢ pos 0 → pos 1 ≤ℤ sum_below m (λ (r : ℕ). cond (b (suc r)) (pos 1) (pos 0))) → pos 1 ≤ℤ (cond (b 0) (pos 1) (pos 0) +ℤ sum_below m (λ (r : ℕ). cond (b (suc r)) (pos 1) (pos 0)))
     pick true e f =
-        let r = sum_nonneg m (λ (r : ℕ). cond (b (suc r)) (pos 1) (pos 0)) (λ q l. nonneg (b (suc q))) in
+        let r = sum_not_negative m (λ (r : ℕ). cond (b (suc r)) (pos 1) (pos 0)) (λ q l. nonneg (b (suc q))) in
         rw e (omega (arith, ints, r))
     pick false e f =
         let r = f (λ z. n (ap (λ (c : Bool). cond c (x 0) (pos 0) +ℤ sum_below m (λ (r : ℕ). cond (b (suc r)) (x (suc r)) (pos 0))) e ∙ ap (λ (y : ℤ). pos 0 +ℤ y) z)) in
@@ -177,11 +171,6 @@ lookup_below_length [] v q h = absurd (omega arith)
 lookup_below_length (a ∷ x) v zero h = refl
 lookup_below_length (a ∷ x) v (suc q) h = lookup_below_length x v q (omega arith)
 
-past_length : (x : List ℤ) (n : ℕ) → length x ≤ n → lookup x n ≡ pos 0
-past_length [] n h = lookup_none n
-past_length (a ∷ x) zero h = absurd (omega arith)
-past_length (a ∷ x) (suc n) h = past_length x n (omega arith)
-
 pub mixed : (t : Table) (normals : List (List ℤ)) (k n : ℕ) → IsReady t → t.system ≡ system_of normals k → t.rows ≡ suc n → k < length normals → n ≤ 21 → ((j : ℕ) → j < length normals → length (column_at normals j) ≡ n) → objective_of t ≡ pos 0 → IsMix t normals k n
 mixed t normals k n w es er h b s o = record {
   sum = λ q l. solved q (all q (omega arith)) l;
@@ -266,7 +255,7 @@ mixed t normals k n w es er h b s o = record {
         sum_below m (value_of t) ≡ t.den
     last e =
         let a = part n (omega arith) ∙ sum_same m (λ (c : ℕ). value_of t c *ℤ lookup (column_at xs c ++ pos 1 ∷ []) n) (value_of t) (λ c v. ap (λ (a : ℤ). value_of t c *ℤ a) (lookup_at_length (column_at xs c) (pos 1) n (len c v)) ∙ mul_one_z (value_of t c)) in
-        let p = past_length x n (omega arith) in
+        let p = lookup_past x n (omega arith) in
         let u = unit_same 22 n (omega arith) in
         let g = rw (a, at_p n (omega arith), at_q n (omega arith), p, u) at e in
         ring_by (sum_below m (value_of t) ∷ value_of t m ∷ value_of t (suc m) ∷ t.den ∷ [])
@@ -291,7 +280,7 @@ some_positive (suc m) f d h g p = pick (f 0) refl (some_positive m (λ (q : ℕ)
         let a = r (omega (arith, ints, p, e)) in
         omega (arith, ints, z, a)
     pick (pos (suc n)) e r =
-        let a = sum_nonneg m (λ (q : ℕ). f (suc q) *ℤ d (suc q)) (λ q l. mul_nonneg_z (f (suc q)) (d (suc q)) (h (suc q)) (weak (d (suc q)) (g (suc q) (omega arith)))) in
+        let a = sum_not_negative m (λ (q : ℕ). f (suc q) *ℤ d (suc q)) (λ q l. mul_nonneg_z (f (suc q)) (d (suc q)) (h (suc q)) (weak (d (suc q)) (g (suc q) (omega arith)))) in
         let b = mul_pos_z (f 0) (d 0) (rw e (omega (arith, ints))) (g 0 (omega arith)) in
         omega (arith, ints, a, b)
     pick (negsuc n) e r = let a = h 0 in absurd (omega (arith, ints, a, e))
@@ -302,7 +291,7 @@ sum_of_products m n f x w =
     ∙ sum_below_swap n m (λ (q c : ℕ). f c *ℤ x c q *ℤ w q)
     ∙ sum_same m (λ (c : ℕ). sum_below n (λ (q : ℕ). f c *ℤ x c q *ℤ w q)) (λ (c : ℕ). f c *ℤ sum_below n (λ (q : ℕ). x c q *ℤ w q)) (λ c l. sum_same n (λ (q : ℕ). f c *ℤ x c q *ℤ w q) (λ (q : ℕ). f c *ℤ (x c q *ℤ w q)) (λ q k. ring (f c ∷ x c q ∷ w q ∷ []) (var 0 ⊗ var 1 ⊗ var 2) (var 0 ⊗ (var 1 ⊗ var 2)) tt) ∙ sum_below_scale n (f c) (λ (q : ℕ). x c q *ℤ w q))
 
-positive_first : (a b : ℤ) → pos 0 <ℤ (a *ℤ b) → pos 0 <ℤ b → pos 0 <ℤ a
+pub positive_first : (a b : ℤ) → pos 0 <ℤ (a *ℤ b) → pos 0 <ℤ b → pos 0 <ℤ a
 positive_first (pos (suc n)) b h k = omega (arith, ints)
 positive_first (pos zero) b h k = let e = zero_mul_z b in absurd (omega (arith, ints))
 positive_first (negsuc n) b h k =

@@ -12,13 +12,14 @@ use Rattle.lt_model.specs.Vectors.{plus, scale, dot, zeros, combine}
 use Rattle.lt_model.specs.Simplices.{AllOfDimension}
 use Rattle.lt_model.specs.Forms.{numbers_of_form}
 use Rattle.lt_model.specs.Cones.{Verdict, wall, combination, coefficients, places, IsRightVerdict}
-use Rattle.lt_model.proofs.Integers.{mul_zero_z, zero_mul_z, mul_comm_z}
+use Rattle.lt_model.proofs.Integers.{mul_zero_z}
 use Rattle.lt_model.proofs.Ring.{ring, ring_by, var, num, ◌⊕◌, ◌⊗◌}
-use Rattle.lt_model.proofs.Inequalities.{mul_pos_z, mul_nonneg_z, mul_le_mul_z}
+use Rattle.lt_model.proofs.Inequalities.{mul_pos_z, mul_nonneg_z}
 use Rattle.lt_model.proofs.Vectors.{dot-scale, dot_comm}
 use Rattle.lt_model.proofs.Squares.{length-scale}
 use Rattle.lt_model.proofs.Excess.{dot-nil, plus-dot, scale-dot}
 use Rattle.lt_model.proofs.Walk.{length-combine}
+use Rattle.lt_model.proofs.Hadamard.{dot_nonneg}
 use Rattle.lt_tableau.specs.Numbers.{column_at, filled}
 use Rattle.lt_tableau.proofs.Sums.{lookup_none, lookup_scale, lookup_combine, sum_same}
 use Rattle.lt_lp.specs.Positive.{IsPositiveAt}
@@ -27,16 +28,8 @@ use Rattle.lt_lp.specs.Alternatives.{IsWallForm, IsCombination, HasWallForm, IsC
 use Rattle.lt_lp.proofs.FromZeros.{lookup_from_zeros, dot_from_zeros, length_from_zeros}
 use Rattle.lt_lp.proofs.Terms.{terms_ascend, terms_within, terms_other, terms_positive, terms_sum}
 use Rattle.lt_lp.proofs.Combined.{same_lists, combine-scale, all_of_dimension}
-use Rattle.lt_lp.proofs.Gordan.{AllAbove, Same, IsRelation, Alternative, gordan, turned, turned_positive, combine_turned, dot_combine_pos, dot_self_nonneg, dot_self_zero, same_dot}
-
-factor_positive : (a b : ℤ) → pos 0 <ℤ (a *ℤ b) → pos 0 <ℤ b → pos 0 <ℤ a
-factor_positive (pos (suc n)) b h k = omega (arith, ints)
-factor_positive (pos zero) b h k = let e = zero_mul_z b in absurd (omega (arith, ints))
-factor_positive (negsuc n) b h k =
-    let m = mul_le_mul_z b (negsuc n) (pos 0) (omega (arith, ints)) (omega (arith, ints)) in
-    let e = mul_zero_z b in
-    let f = mul_comm_z b (negsuc n) in
-    absurd (omega (arith, ints))
+use Rattle.lt_lp.proofs.Gordan.{AllAbove, Same, IsRelation, Alternative, gordan, turned, turned_positive, combine_turned, dot_combine_pos, dot_self_zero, same_dot}
+use Rattle.lt_lp.proofs.Mixes.{positive_first}
 
 -- ---- a vector and others
 wall_of : (w u : List ℤ) (vs : List (List ℤ)) → AllAbove w (map (turned (scale (negsuc 0) u) u (dot u u)) vs) → (x : List ℤ) × (dot x u ≡ pos 0) × AllAbove x vs
@@ -76,7 +69,7 @@ sum_of q u ts vs h k p r =
     ∙ sym (lookup_scale s u i) in
     let d = dot_combine_pos q (scale c ts) vs r.at p n l (rw (lookup_scale c ts r.at) (mul_pos_z c (lookup ts r.at) k r.positive)) in
     let e : dot q (combine (scale c ts) vs) ≡ s *ℤ dot q u = same_dot q (combine (scale c ts) vs) (scale s u) same ∙ dot-scale q s u in
-    (s, scale c ts, record { positive = factor_positive s (dot q u) (subst (λ (z : ℤ). pos 0 <ℤ z) e d) h; not_negative = n; sum = same })
+    (s, scale c ts, record { positive = positive_first s (dot q u) (subst (λ (z : ℤ). pos 0 <ℤ z) e d) h; not_negative = n; sum = same })
 
 square_positive : (q u : List ℤ) → pos 0 <ℤ dot q u → pos 0 <ℤ dot u u
 square_positive q u h = pick (dot u u) refl
@@ -84,7 +77,7 @@ square_positive q u h = pick (dot u u) refl
     pick : (z : ℤ) → dot u u ≡ z → pos 0 <ℤ dot u u
     pick (pos (suc n)) e = omega (arith, ints)
     pick (pos zero) e = let d = same_dot q u [] (dot_self_zero u e) ∙ dot-nil q in absurd (omega (arith, ints))
-    pick (negsuc n) e = let b = dot_self_nonneg u in absurd (omega (arith, ints))
+    pick (negsuc n) e = let b = dot_nonneg u in absurd (omega (arith, ints))
 
 -- Gordan's alternative for the vectors turned at u
 one_of : (q u : List ℤ) (vs : List (List ℤ)) → pos 0 <ℤ dot q u → AllAbove q vs → ((x : List ℤ) × (dot x u ≡ pos 0) × AllAbove x vs) ⊎ ((s : ℤ) × (ts : List ℤ) × IsSum u vs s ts)

@@ -1,5 +1,5 @@
 -- A list with a number that isn't 0, divided by its greatest common divisor.
-use Rattle.std.proofs.Common.{◌≡◌, ◌≢◌, refl, sym, ◌∙◌, ap, subst, arith, ℕ, zero, suc, ◌*◌, ◌^◌, ◌<◌, ◌≤◌, ℤ, pos, negsuc, ◌*ℤ◌, ◌≤ℤ◌, List, [], ◌∷◌, map, nat_abs, unsigned_abs, mul-le-mul}
+use Rattle.std.proofs.Common.{◌≡◌, ◌≢◌, sym, ◌∙◌, subst, arith, ℕ, zero, suc, ◌*◌, ◌^◌, ◌<◌, ◌≤◌, ℤ, pos, negsuc, ◌*ℤ◌, ◌≤ℤ◌, List, [], ◌∷◌, nat_abs, unsigned_abs, mul-le-mul}
 use Rattle.std.specs.Int.{◌∣◌}
 use Rattle.std.proofs.lemmas.Int.{ints, unsigned_abs-mul}
 use Rattle.std.proofs.lemmas.List.Elements.{All-cons, All-head, All-tail}
@@ -8,6 +8,7 @@ use Rattle.std.proofs.Math.Nat.{one-dvd, dvd-mul_right}
 use Rattle.lt_model.specs.Padded.{lookup}
 use Rattle.lt_model.specs.Vectors.{scale, IsPrimitive}
 use Rattle.lt_model.specs.Cones.{AreBelow}
+use Rattle.lt_model.proofs.Vectors.{map-is-scale}
 use Rattle.lt_num.specs.Divisors.{DividesEach, IsGcdOf, MadePrimitive}
 use Rattle.lt_lp.specs.Reduced.{IsReduced}
 use Rattle.lt_tableau.proofs.Sums.{lookup_none}
@@ -18,10 +19,6 @@ each_multiple g (x ∷ m) = (subst (λ (n : ℕ). g ∣ n) (sym (unsigned_abs-mu
 
 pub primitive_from_gcd : (xs : List ℤ) → IsGcdOf xs 1 → IsPrimitive xs
 primitive_from_gcd xs h g m e = dvd_antisymm (h.greatest g (subst (DividesEach g) (sym e) (each_multiple g m))) (one-dvd g)
-
-pub map-is-scale : (k : ℤ) (xs : List ℤ) → map (λ z. k *ℤ z) xs ≡ scale k xs
-map-is-scale k [] = refl
-map-is-scale k (x ∷ xs) = ap (λ (ys : List ℤ). (k *ℤ x) ∷ ys) (map-is-scale k xs)
 
 none_past : (q : ℕ) → lookup [] q ≢ pos 0 → ⊥
 none_past q h = h (lookup_none q)

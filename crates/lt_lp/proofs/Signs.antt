@@ -72,7 +72,7 @@ right_not_negative t row p = pick p.at refl
     pick zero e = let f = subst (λ (m : ℕ). pos 0 <ℤ number_of t row m) e p.positive in omega (arith, ints)
     pick (suc a) e = rw (p.before 0 (omega arith)) (omega (arith, ints))
 
-sum_not_negative : (n : ℕ) (f : ℕ → ℤ) → ((q : ℕ) → q < n → pos 0 ≤ℤ f q) → pos 0 ≤ℤ sum_below n f
+pub sum_not_negative : (n : ℕ) (f : ℕ → ℤ) → ((q : ℕ) → q < n → pos 0 ≤ℤ f q) → pos 0 ≤ℤ sum_below n f
 sum_not_negative zero f h = omega (arith, ints)
 sum_not_negative (suc n) f h =
     let a = h 0 (omega arith) in

@@ -1,5 +1,5 @@
 -- The steps of the loops that gather the terms of a combination.
-use Rattle.std.proofs.Common.{◌≡◌, ◌≢◌, refl, sym, ◌∙◌, ap, ℕ, zero, suc, ◌+◌, ◌-◌, ◌*◌, ◌≤◌, ◌<◌, ◌^◌, ℤ, pos, negsuc, ◌+ℤ◌, arith, List, [], ◌∷◌, ◌++◌, length, length-append, cond, nat_eq, Bool, true, false, nat_abs, append_assoc, FitsSigned}
+use Rattle.std.proofs.Common.{◌≡◌, ◌≢◌, refl, sym, ◌∙◌, ap, ℕ, zero, suc, ◌+◌, ◌-◌, ◌*◌, ◌≤◌, ◌<◌, ◌^◌, ℤ, pos, negsuc, ◌+ℤ◌, arith, List, [], ◌∷◌, ◌++◌, cond, nat_eq, Bool, true, false, nat_abs, append_assoc, FitsSigned}
 use Rattle.std.specs.Int.{w128}
 use Rattle.std.proofs.lemmas.Int.{ints, fits_signed_from_abs}
 use Rattle.std.proofs.lemmas.Bool.Decides.{nat_tests}
@@ -54,10 +54,3 @@ terms_some k f column columns all rest h n e =
 
 pub terms_none : (k : ℕ) (f : ℕ → ℤ) (column columns : ℕ) (all rest : List (ℕ × ℤ)) → column < columns → f column ≡ pos 0 → all ++ terms_from k f column (columns - column) ≡ rest → all ++ terms_from k f (column + 1) (columns - (column + 1)) ≡ rest
 terms_none k f column columns all rest h z e = ap (λ ts. all ++ ts) (sym (next_terms k f column columns h ∙ ap (λ (x : ℤ). with_term (place_of k column) x (terms_from k f (column + 1) (columns - (column + 1)))) z)) ∙ e
-
-pub terms_room : (k : ℕ) (f : ℕ → ℤ) (column columns : ℕ) (all rest : List (ℕ × ℤ)) → column < columns → f column ≢ pos 0 → all ++ terms_from k f column (columns - column) ≡ rest → length rest ≤ 21 → length all < 21
-terms_room k f column columns all rest h n e l =
-    let a = length-append all (terms_from k f column (columns - column)) in
-    let b : length (terms_from k f column (columns - column)) ≡ suc (length (terms_from k f (column + 1) (columns - (column + 1)))) = ap length (next_terms k f column columns h ∙ some_term (place_of k column) (f column) (terms_from k f (column + 1) (columns - (column + 1))) n) in
-    let c : length (all ++ terms_from k f column (columns - column)) ≡ length rest = ap length e in
-    omega arith

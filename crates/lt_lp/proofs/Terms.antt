@@ -38,17 +38,6 @@ place_less k c = pick (nat_lt c k) refl (nat_lt (suc c) k) refl
     pick false e true f = let l : k ≤ c = grind (arith, nat_tests) in let m : suc c < k = grind (arith, nat_tests) in absurd (omega arith)
     pick false e false f = omega arith
 
-place_grows : (k c m : ℕ) → place_of k c < place_of k (c + suc m)
-place_grows k c zero = let e : c + 1 ≡ suc c = omega arith in rw e (place_less k c)
-place_grows k c (suc m) =
-    let a = place_grows k c m in
-    let b = place_less k (c + suc m) in
-    let e : c + suc (suc m) ≡ suc (c + suc m) = omega arith in
-    rw e (less_less (place_of k c) (place_of k (c + suc m)) (place_of k (suc (c + suc m))) a b)
-  where
-    less_less : (x y z : ℕ) → x < y → y < z → x < z
-    less_less x y z h l = omega arith
-
 less_is : (a b : ℕ) → a < b → nat_cmp a b ≡ Less
 less_is a b h = grind (arith, nat_tests)
 
@@ -84,7 +73,7 @@ place_other k c = pick (nat_lt c k) refl
     pick true e z = let l : c < k = grind (arith, nat_tests) in absurd (omega arith)
     pick false e z = let l : k ≤ c = grind (arith, nat_tests) in absurd (omega arith)
 
-nothing : {X : Type 0} (P : X → Type 0) → All P []
+pub nothing : {X : Type 0} (P : X → Type 0) → All P []
 nothing P k d l = absurd (omega arith)
 
 pub terms_within : (k n : ℕ) (f : ℕ → ℤ) (c m : ℕ) → suc (c + m) ≤ n → All (λ i. i < n) (places (terms_from k f c m))

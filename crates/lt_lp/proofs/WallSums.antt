@@ -13,6 +13,7 @@ use Rattle.lt_tableau.proofs.Sums.{lookup_none, lookup_is, lookup_plus}
 use Rattle.std.specs.Int.{◌∣◌}
 use Rattle.std.proofs.lemmas.Nat.Gcd.{le_of_dvd}
 use Rattle.lt_num.specs.Divisors.{DividesEach, IsGcdOf}
+use Rattle.lt_tableau.proofs.Starts.{lookup_past}
 
 zeros_last : (n : ℕ) → zeros (suc n) ≡ zeros n ++ pos 0 ∷ []
 zeros_last zero = refl
@@ -50,16 +51,11 @@ sum_size x y count h k l =
     let a : nat_abs (x +ℤ y) ≤ nat_abs x + nat_abs y = omega (arith, ints) in
     record { fits = fits_signed_from_abs w128 (x +ℤ y) (omega arith); small = omega arith }
 
-pub past : (xs : List ℤ) (q : ℕ) → length xs ≤ q → lookup xs q ≡ pos 0
-past [] q h = lookup_none q
-past (x ∷ xs) zero h = absurd (omega arith)
-past (x ∷ xs) (suc q) h = past xs q (omega arith)
-
 pub small_at : (ys : List ℤ) → All (λ x. nat_abs x < 2 ^ 62) ys → (q : ℕ) → nat_abs (lookup ys q) < 2 ^ 62
 small_at ys h q = pick (dec_le (length ys) q)
   where
     pick : Dec (length ys ≤ q) → nat_abs (lookup ys q) < 2 ^ 62
-    pick (yes l) = rw (past ys q l) (omega arith)
+    pick (yes l) = rw (lookup_past ys q l) (omega arith)
     pick (no l) = rw (lookup_is ys q) (h q (pos 0) (omega arith))
 
 -- ---- one row more
@@ -95,7 +91,7 @@ pub below_at : (n : ℕ) → 0 < n → (ys : List ℤ) → AreBelow n ys → (q 
 below_at n p ys h q = pick (dec_le (length ys) q)
   where
     pick : Dec (length ys ≤ q) → nat_abs (lookup ys q) < n
-    pick (yes l) = rw (past ys q l) (omega arith)
+    pick (yes l) = rw (lookup_past ys q l) (omega arith)
     pick (no l) = rw (lookup_is ys q) (h q (pos 0) (omega arith))
 
 pub not_large : (xs : List ℤ) (q : ℕ) → lookup xs q ≢ pos 0 → AreBelow (2 ^ 92) xs → IsGcdOf xs (2 ^ 127) → ⊥

@@ -8,11 +8,11 @@ use Rattle.lt_model.specs.Matrices.{apply, times, identity, IsSquare, IsInverse}
 use Rattle.lt_model.specs.Flat.{rows}
 use Rattle.lt_model.specs.Simplices.{AllOfDimension, IsSimplex}
 use Rattle.lt_model.proofs.Flat.{times_square, identity_square, rows_square}
+use Rattle.lt_model.proofs.Points.{get_dimension}
 use Rattle.lt_geometry.proofs.Matrices.{IsUndone, undone, apply-times, apply-identity}
 use Rattle.lt_geometry.proofs.Motions.{length_of_member}
 use Rattle.lt_geometry.proofs.Carried.{get-map}
 use Rattle.lt_geometry.proofs.Candidates.{same_on_simplex}
-use Rattle.lt_triang.proofs.Steps.{get_dimension}
 use Rattle.lt_match.specs.Images.{TakesTo}
 
 -- two matrices of which one takes the vertices where the other takes them back from

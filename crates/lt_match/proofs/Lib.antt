@@ -16,3 +16,4 @@ pub mod Spans
 pub mod Beyond
 pub mod Selected
 mod Told
+pub mod OneMatch

@@ -40,9 +40,6 @@ none_leads (suc n) = none_leads n
 pub independent_columns : (vs : List (List ℤ)) (terms : List ℤ) → AreLinearlyIndependent vs → IsColumnDependency vs terms → ⊥
 independent_columns vs terms free h = leading_primitive terms h.primitive (ap leading (free terms h.one_each h.sum) ∙ none_leads (length vs))
 
-pub count_rest : (d : ℕ) (points : List (List ℤ)) → length points ≡ suc d → length (drop 1 points) ≡ d
-count_rest d points h = omega (arith, length-drop 1 points, h)
-
 -- ---- gathering the rows
 
 -- the rows before row n

@@ -3,7 +3,6 @@ use Rattle.std.proofs.Common.{◌≡◌, ℕ, ◌<◌, ◌≤◌, ◌+◌, inl, 
 use Rattle.std.specs.declared.cmp.Ordering.{Ordering}
 use Rattle.std.specs.declared.cmp.Ordering.TheVariants.{Less, Greater}
 use Rattle.std.specs.Ordering.{ordering_reverse}
-use Rattle.std.specs.Cmp.{IsTotalOrder}
 use Rattle.std.specs.List.{Contains}
 use Rattle.std.specs.List.Sorted.{IsStrictlySortedBy}
 use Rattle.std.proofs.lemmas.Map.Keys.{Less-from_sorted}
@@ -12,14 +11,11 @@ use Rattle.std.proofs.lemmas.Bool.{cases_lt}
 use Rattle.lt_model.specs.Order.{simplex_cmp}
 use Rattle.lt_model.proofs.Sets.{simplex_cmp_total}
 
-total : IsTotalOrder simplex_cmp
-total = simplex_cmp_total
-
 -- what comes before a class below x is below x
 pub below_at : (t : List (List (List ℤ))) (x : List (List ℤ)) (m n : ℕ) → IsStrictlySortedBy simplex_cmp t → m < length t → simplex_cmp (get_or t m []) x ≡ Less → n < m + 1 → simplex_cmp (get_or t n []) x ≡ Less
 below_at t x m n asc hm less h =
     elim (cases_lt n m) [
-      | inl before ↦ total.trans (get_or t n []) (get_or t m []) x (Less-from_sorted simplex_cmp t n m [] asc before hm) less
+      | inl before ↦ simplex_cmp_total.trans (get_or t n []) (get_or t m []) x (Less-from_sorted simplex_cmp t n m [] asc before hm) less
       | inr after ↦ let same : m ≡ n = omega arith in subst (λ (k : ℕ). simplex_cmp (get_or t k []) x ≡ Less) same less
     ]
 
@@ -28,9 +24,9 @@ pub above_at : (t : List (List (List ℤ))) (x : List (List ℤ)) (m n : ℕ) �
 above_at t x m n asc more h hn =
     elim (cases_lt m n) [
       | inl after ↦
-          let below : simplex_cmp x (get_or t m []) ≡ Less = total.antisymm x (get_or t m []) ∙ ap ordering_reverse more in
-          let all : simplex_cmp x (get_or t n []) ≡ Less = total.trans x (get_or t m []) (get_or t n []) below (Less-from_sorted simplex_cmp t m n [] asc after hn) in
-          total.antisymm (get_or t n []) x ∙ ap ordering_reverse all
+          let below : simplex_cmp x (get_or t m []) ≡ Less = simplex_cmp_total.antisymm x (get_or t m []) ∙ ap ordering_reverse more in
+          let all : simplex_cmp x (get_or t n []) ≡ Less = simplex_cmp_total.trans x (get_or t m []) (get_or t n []) below (Less-from_sorted simplex_cmp t m n [] asc after hn) in
+          simplex_cmp_total.antisymm (get_or t n []) x ∙ ap ordering_reverse all
       | inr before ↦ let same : m ≡ n = omega arith in subst (λ (k : ℕ). simplex_cmp (get_or t k []) x ≡ Greater) same more
     ]
 
@@ -50,4 +46,4 @@ not_among t x low high h below above (k, p, e) =
     clash2 f = cc
 
     itself : (r : Ordering) → (ordering_reverse r ≡ r → ⊥) → simplex_cmp x x ≡ r → ⊥
-    itself r never f = never (ap ordering_reverse (sym f) ∙ sym (total.antisymm x x) ∙ f)
+    itself r never f = never (ap ordering_reverse (sym f) ∙ sym (simplex_cmp_total.antisymm x x) ∙ f)

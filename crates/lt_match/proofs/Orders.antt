@@ -7,13 +7,12 @@ use Rattle.lt_model.specs.Vectors.{minus, zeros}
 use Rattle.lt_model.specs.Matrices.{IsSquare}
 use Rattle.lt_model.specs.Principal.{IsOrder}
 use Rattle.lt_model.specs.Simplices.{AllOfDimension, IsClass}
+use Rattle.lt_model.proofs.Points.{get_dimension, minus_itself}
 use Rattle.lt_geometry.specs.Carrying.{IsCandidate}
 use Rattle.lt_geometry.proofs.Candidates.{below}
-use Rattle.lt_geometry.proofs.Motions.{minus_itself}
 use Rattle.lt_lattice.specs.Ranges.{IsWithin}
 use Rattle.lt_triang.specs.Bounds.{AreWithin, AreNear}
 use Rattle.lt_triang.proofs.Gaps.{length-minus}
-use Rattle.lt_triang.proofs.Steps.{get_dimension}
 use Rattle.lt_match.specs.Images.{TakesTo}
 use Rattle.lt_match.specs.Matches.{in_order}
 
@@ -37,7 +36,7 @@ get-vertex f (k ∷ p) (suc i) h = get-vertex f p i (omega arith)
 pub order_at : (d : ℕ) (s : List (List ℤ)) (p : List ℕ) (i : ℕ) → IsOrder (suc d) p → i < suc d → get_or (in_order s p) i [] ≡ minus (get_or s (get_or p i 0) []) (get_or s (get_or p 0 0) [])
 order_at d s p i o h = get-vertex (λ k. minus (get_or s k []) (get_or s (get_or p 0 0) [])) p i (omega (arith, o.count, h))
 
-all_at : (P : List ℤ → Type 0) (vs : List (List ℤ)) → ((i : ℕ) → i < length vs → P (get_or vs i [])) → AllByRecursion P vs
+pub all_at : (P : List ℤ → Type 0) (vs : List (List ℤ)) → ((i : ℕ) → i < length vs → P (get_or vs i [])) → AllByRecursion P vs
 all_at P [] h = tt
 all_at P (v ∷ vs) h = (h 0 (omega arith), all_at P vs (λ i k. h (suc i) (omega arith)))
 

@@ -9,15 +9,16 @@ use Rattle.lt_model.specs.Vectors.{plus, minus, scale, zeros}
 use Rattle.lt_model.specs.Limits.{span_limit}
 use Rattle.lt_model.specs.Matrices.{apply, IsSquare}
 use Rattle.lt_model.specs.Simplices.{AllOfDimension, IsSimplex, IsClass, IsClassOf, translate}
-use Rattle.lt_model.proofs.Sets.{number_list_cmp_total, each_holds, Contains-head, Contains-tail}
+use Rattle.lt_model.proofs.Sets.{number_list_cmp_total, each_holds, Contains-head, Contains-tail, Contains-map}
 use Rattle.lt_model.proofs.Squares.{length-scale}
 use Rattle.lt_model.proofs.Dependent.{length-map_vectors}
 use Rattle.lt_model.proofs.Excess.{length-translate}
 use Rattle.lt_model.proofs.Translates.{ascending_translate}
 use Rattle.lt_model.proofs.Moved.{simplex_moved, translate-back}
+use Rattle.lt_model.proofs.Points.{opposite_twice}
 use Rattle.lt_geometry.proofs.Rearranged.{IsRearranged, rearranged_from}
 use Rattle.lt_geometry.proofs.Sorting.{sorted_is_distinct}
-use Rattle.lt_geometry.proofs.Motions.{IsMapped, mapped, Contains-map, simplex_rearranged}
+use Rattle.lt_geometry.proofs.Motions.{IsMapped, mapped, simplex_rearranged}
 use Rattle.lt_geometry.proofs.Matrices.{apply-zeros, map-apply_all}
 use Rattle.lt_geometry.proofs.Classes.{one_class}
 use Rattle.lt_geometry.proofs.Carried.{get-map}
@@ -27,7 +28,6 @@ use Rattle.lt_triang.specs.Flat.{IsClassAt}
 use Rattle.lt_triang.specs.Kept.{IsTriangulation}
 use Rattle.lt_triang.proofs.Made.{classes_of}
 use Rattle.lt_triang.proofs.Gaps.{twice_limit, member_near, within_from_near, minus-zeros}
-use Rattle.lt_triang.proofs.Independent.{opposite_twice}
 use Rattle.lt_triang.proofs.Least.{all_permuted, class_from_sorted, minus-plus}
 use Rattle.lt_triang.proofs.Shifts.{within_more}
 use Rattle.lt_match.specs.Images.{HasClassOf}

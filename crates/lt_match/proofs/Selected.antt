@@ -7,12 +7,13 @@ use Rattle.std.proofs.lemmas.List.Elements.{Contains-get_or}
 use Rattle.lt_model.specs.Triangulations.{IsDelaunay}
 use Rattle.lt_geometry.proofs.Candidates.{candidate_class, below}
 use Rattle.lt_geometry.proofs.Images.{IsCarried, carries_undone}
-use Rattle.lt_geometry.proofs.Motions.{moved, motion_of, back_shift, minus_and_plus, length_of_member}
+use Rattle.lt_geometry.proofs.Motions.{moved, motion_of, back_shift, length_of_member}
 use Rattle.lt_geometry.proofs.Matrices.{IsUndone}
 use Rattle.lt_geometry.specs.Carrying.{IsCandidate}
 use Rattle.lt_model.specs.Simplices.{IsClass}
 use Rattle.lt_model.specs.Principal.{IsOrder}
 use Rattle.lt_model.specs.Vectors.{plus}
+use Rattle.lt_geometry.proofs.LocalWalk.{plus-forth}
 use Rattle.lt_triang.specs.Kept.{IsTriangulation, IsOfSomeForm, dimension_of}
 use Rattle.lt_colour.specs.Signatures.{IsClassSignature}
 use Rattle.lt_colour.proofs.OneSignature.{same_signature}
@@ -43,7 +44,7 @@ vertex_goes d s s2 p u c2 k i hi li l0 =
     let b : List ℤ = get_or s2 (get_or p i 0) [] in
     let la : length a ≡ d = length_of_member d s2 a c2.simplex.points (Contains-get_or s2 (get_or p 0 0) [] l0) in
     let lb : length b ≡ d = length_of_member d s2 b c2.simplex.points (Contains-get_or s2 (get_or p i 0) [] li) in
-    sym (ap (λ (x : List ℤ). plus x a) (k.images i hi) ∙ minus_and_plus d b a lb la)
+    sym (ap (λ (x : List ℤ). plus x a) (k.images i hi) ∙ plus-forth d b a lb la)
 
 -- so it carries the first class to the member, by that shift
 goes_onto : (d : ℕ) (s s2 : List (List ℤ)) (p : List ℕ) (u v : List (List ℤ)) → IsUndone d u v → IsClass d s → IsClass d s2 → IsOrder (suc d) p → IsCandidate d s s2 p u → IsCarried d u v s s2
@@ -122,9 +123,6 @@ module _ (d : ℕ) (t t2 : List (List (List ℤ))) where
     pub below : (i : ℕ) → i < length places → get_or places i 0 < n
     pub ascending : (i j : ℕ) → i < j → j < length places → get_or places i 0 < get_or places j 0
     pub all : (k : ℕ) → k < n → Contains places k ⊎ HasNone d t t2 k
-
-  pub none_below : ArePlacesBelow 0 []
-  none_below = record { below = λ i l. absurd (omega arith); ascending = λ i j e l. absurd (omega arith); all = λ k l. absurd (omega arith) }
 
   pub place_passed : (n : ℕ) (places : List ℕ) → ArePlacesBelow n places → HasNone d t t2 n → ArePlacesBelow (n + 1) places
   place_passed n places h none = record {

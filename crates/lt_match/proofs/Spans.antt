@@ -8,21 +8,21 @@ use Rattle.lt_model.specs.Vectors.{plus, minus, zeros}
 use Rattle.lt_model.specs.Limits.{greatest, class_span, span, span_limit}
 use Rattle.lt_model.specs.Matrices.{apply, IsSquare, IsInverse, Carries}
 use Rattle.lt_model.specs.Simplices.{AllOfDimension, AreIndependent, IsSimplex, IsClass, IsClassOf}
-use Rattle.lt_model.proofs.Sets.{each_holds, Contains-head, Contains-tail}
+use Rattle.lt_model.proofs.Sets.{each_holds, Contains-head, Contains-tail, Contains-map}
 use Rattle.lt_model.proofs.Moved.{Contains-translate}
 use Rattle.lt_model.proofs.Dependent.{length-map_vectors}
 use Rattle.lt_geometry.proofs.Carried.{closed_carried}
 use Rattle.lt_geometry.proofs.Classes.{one_class}
 use Rattle.lt_geometry.proofs.Images.{HasCarried, has_carried, carried_class, carries_undone}
 use Rattle.lt_geometry.proofs.Matrices.{undone, map-apply_all, apply-zeros}
-use Rattle.lt_geometry.proofs.Motions.{IsMapped, mapped, Contains-map}
+use Rattle.lt_geometry.proofs.Motions.{IsMapped, mapped}
 use Rattle.lt_lattice.specs.Ranges.{IsWithin}
 use Rattle.lt_triang.specs.Bounds.{AreWithin, AreNear}
 use Rattle.lt_triang.specs.Flat.{leading, IsFlat}
 use Rattle.lt_triang.specs.Across.{IsOpenAnswer}
 use Rattle.lt_triang.specs.Kept.{IsTriangulation}
 use Rattle.lt_triang.specs.Kept as kept
-use Rattle.lt_triang.proofs.Gaps.{twice_limit, le_greatest, contains_map, greatest_at_most, near_from_class_span, class_span_from_near, minus-zeros}
+use Rattle.lt_triang.proofs.Gaps.{twice_limit, le_greatest, greatest_at_most, near_from_class_span, class_span_from_near, minus-zeros}
 use Rattle.lt_triang.proofs.Least.{minus-plus}
 use Rattle.lt_triang.proofs.Made.{not_open}
 use Rattle.lt_match.specs.Wide.{told_span, AreImages}
@@ -115,21 +115,21 @@ span_of_image d u t t2 h k =
         let o : HasCarried d u k.inverse s = has_carried d u k.inverse s (carries_undone d u t t2 k) (h.classes s m) in
         let is = carried_class d u k.inverse s o.list o.is in
         let here : Contains t2 o.list = (k.members o.list).1 (s, m, is) in
-        omega (arith, span_of_class d (map (apply u) s) o.list is, le_greatest (map class_span t2) (class_span o.list) (contains_map class_span t2 o.list here))
+        omega (arith, span_of_class d (map (apply u) s) o.list is, le_greatest (map class_span t2) (class_span o.list) (Contains-map class_span t2 o.list here))
 
     back : (s2 : List (List ℤ)) → Contains t2 s2 → class_span s2 ≤ greatest (map (λ s. class_span (map (apply u) s)) t)
     back s2 m = from ((k.members s2).0 m)
       where
         from : ((s : List (List ℤ)) × Contains t s × IsClassOf d (map (apply u) s) s2) → class_span s2 ≤ greatest (map (λ s. class_span (map (apply u) s)) t)
         from (s, c, is) =
-            omega (arith, span_of_class d (map (apply u) s) s2 is, le_greatest (map (λ z. class_span (map (apply u) z)) t) (class_span (map (apply u) s)) (contains_map (λ z. class_span (map (apply u) z)) t s c))
+            omega (arith, span_of_class d (map (apply u) s) s2 is, le_greatest (map (λ z. class_span (map (apply u) z)) t) (class_span (map (apply u) s)) (Contains-map (λ z. class_span (map (apply u) z)) t s c))
 
 -- what is told of the spans is told of the span of the image
 pub told_of_image : (d : ℕ) (u : List (List ℤ)) (t t2 : List (List (List ℤ))) → IsTriangulation d t → Carries d u t t2 → greatest (map (told_span u) t) ≡ min (2 ^ 20) (span t2)
 told_of_image d u t t2 h k = greatest_told u t ∙ ap (min (2 ^ 20)) (span_of_image d u t t2 h k)
 
 pub told_at : (d n : ℕ) (u : List (List ℤ)) (t : List (List (List ℤ))) → n < length t → greatest (map (told_span u) t) ≤ span_limit d → told_span u (get_or t n []) ≤ span_limit d
-told_at d n u t p h = omega (arith, h, le_greatest (map (told_span u) t) (told_span u (get_or t n [])) (contains_map (told_span u) t (get_or t n []) (Contains-get_or t n [] p)))
+told_at d n u t p h = omega (arith, h, le_greatest (map (told_span u) t) (told_span u (get_or t n [])) (Contains-map (told_span u) t (get_or t n []) (Contains-get_or t n [] p)))
 
 -- the classes of the images are those of an image
 pub carried_list : (d : ℕ) (u v : List (List ℤ)) (t classes t2 : List (List (List ℤ))) → IsSquare d u → IsInverse d u v → AreImages d u t classes → ((s : List (List ℤ)) → Contains t2 s ↔ Contains classes s) → Carries d u t t2

@@ -18,17 +18,17 @@ use Rattle.lt_model.proofs.Excess.{plus-dot, scale-dot, dot-combine}
 use Rattle.lt_model.proofs.Walk.{plus-nil, number_at-map, length-combine}
 use Rattle.lt_model.proofs.Opposite.{length-unit, unit-dot}
 use Rattle.lt_model.proofs.Flat.{identity_square, get-identity}
-use Rattle.lt_geometry.proofs.Matrices.{apply-identity, apply-zeros, same_from_dots_at, length-apply}
+use Rattle.lt_model.proofs.Points.{get_dimension, minus_itself, length-apply, count_rest}
+use Rattle.lt_geometry.proofs.Matrices.{apply-identity, apply-zeros, same_from_dots_at}
 use Rattle.lt_geometry.proofs.Induced.{combine-plus, scale-combine}
-use Rattle.lt_geometry.proofs.Motions.{minus_itself, minus_and_plus}
-use Rattle.lt_geometry.proofs.LocalWalk.{zeros-plus}
+use Rattle.lt_geometry.proofs.LocalWalk.{zeros-plus, plus-forth}
 use Rattle.lt_lattice.proofs.Places.{get-apply, square_row, length_row}
 use Rattle.lt_solve.specs.Systems.{column_limit}
-use Rattle.lt_triang.proofs.Steps.{get_dimension}
+use Rattle.lt_triang.proofs.Columned.{drop_dimension}
 use Rattle.lt_match.specs.Images.{TakesTo}
 use Rattle.lt_match.specs.Bases.{IsBasis, IsEntry}
-use Rattle.lt_match.proofs.Multiples.{rest_independent, count_rest}
-use Rattle.lt_match.proofs.Written.{drop_dimension}
+use Rattle.lt_match.proofs.Multiples.{rest_independent}
+use Rattle.lt_match.proofs.Orders.{all_at}
 
 -- ---- what a row does to a vector is known from what it is to do to the points
 
@@ -76,10 +76,6 @@ known_combine points values r (x ∷ xs) [] some l all = absurd (omega arith)
 known_combine points values r (x ∷ []) (e ∷ es) some l all = subst (IsKnown points values r) (sym (plus-nil (scale x e))) (known_scaled points values r e x all.0)
 known_combine points values r (x ∷ y ∷ xs) (e ∷ es) some l all = known_sum points values r (scale x e) (combine (y ∷ xs) es) (known_scaled points values r e x all.0) (known_combine points values r (y ∷ xs) es (omega arith) (omega arith) all.1)
 
-all_from_places : (P : List ℤ → Type 0) (es : List (List ℤ)) → ((i : ℕ) → i < length es → P (get_or es i [])) → AllByRecursion P es
-all_from_places P [] h = tt
-all_from_places P (e ∷ es) h = (h 0 (omega arith), all_from_places P es (λ i k. h (suc i) (omega arith)))
-
 combine-identity : (d : ℕ) (x : List ℤ) → 0 < d → length x ≡ d → combine x (identity d) ≡ x
 combine-identity d x some l =
     let square = identity_square d in
@@ -96,7 +92,7 @@ known_all d points values r x some l h =
     let square = identity_square d in
     subst (IsKnown points values r) (combine-identity d x some l)
     (known_combine points values r x (identity d) (omega (arith, l, some)) (l ∙ sym square.rows)
-    (all_from_places (IsKnown points values r) (identity d) (λ i k. subst (IsKnown points values r) (sym (get-identity d i (omega (arith, square.rows, k)))) (h i (omega (arith, square.rows, k))))))
+    (all_at (IsKnown points values r) (identity d) (λ i k. subst (IsKnown points values r) (sym (get-identity d i (omega (arith, square.rows, k)))) (h i (omega (arith, square.rows, k))))))
 
 combine-unit : (d i : ℕ) (points : List (List ℤ)) → AllOfDimension d points → length points ≡ d → i < d → combine (unit d i) points ≡ get_or points i []
 combine-unit d i points all l h =
@@ -120,7 +116,7 @@ row_takes d i points values r some free all l lv h known =
     in
     let ld : length (plus k.numbers (scale (negsuc 0) c)) ≡ length points = length-plus k.numbers (scale (negsuc 0) c) (lk ∙ sym (length-scale (negsuc 0) c ∙ lc)) ∙ k.count in
     let gone : plus k.numbers (scale (negsuc 0) c) ≡ zeros d = free (plus k.numbers (scale (negsuc 0) c)) ld none ∙ ap zeros l in
-    let equal : k.numbers ≡ c = sym (minus_and_plus d k.numbers c lk lc) ∙ ap (λ (z : List ℤ). plus z c) gone ∙ zeros-plus d c lc in
+    let equal : k.numbers ≡ c = sym (plus-forth d k.numbers c lk lc) ∙ ap (λ (z : List ℤ). plus z c) gone ∙ zeros-plus d c lc in
     let value : k.factor *ℤ number_at i values ≡ dot k.numbers values = sym (ap (λ (z : List ℤ). dot z values) equal ∙ scale-dot k.factor (unit d i) values ∙ ap (λ z. k.factor *ℤ z) (unit-dot d i values lv)) in
     sym (cancel_z k.factor (number_at i values) (dot r a) k.positive (value ∙ k.value))
 

@@ -6,13 +6,13 @@ use Rattle.lt_model.specs.Facets.{number_at}
 use Rattle.lt_model.specs.Limits.{span_limit}
 use Rattle.lt_model.specs.Simplices.{AllOfDimension}
 use Rattle.lt_model.proofs.Walk.{number_at-map}
+use Rattle.lt_model.proofs.Points.{get_dimension}
 use Rattle.lt_lattice.specs.Ranges.{IsBelow}
 use Rattle.lt_lattice.proofs.Dots.{product_within}
 use Rattle.lt_solve.specs.Systems.{answer_limit}
 use Rattle.lt_triang.specs.Bounds.{AreWithin}
 use Rattle.lt_triang.proofs.Gaps.{twice_limit}
 use Rattle.lt_triang.proofs.Shifts.{get_within}
-use Rattle.lt_triang.proofs.Steps.{get_dimension}
 
 -- coordinate k of a point after the first
 pub coordinate_at : (targets : List (List ℤ)) (k i : ℕ) → i + 1 < length targets → get_or (map (number_at k) (drop 1 targets)) i (pos 0) ≡ number_at k (get_or targets (i + 1) [])

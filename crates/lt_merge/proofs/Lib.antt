@@ -11,7 +11,6 @@ mod Covered
 mod Stays
 mod Turned
 mod Advance
-mod OneMatch
 mod OneImage
 mod Placed
 mod Stuck

@@ -20,7 +20,7 @@ use Rattle.lt_core.proofs.Recording.{same_place}
 use Rattle.lt_crew.proofs.Places.{form}
 use Rattle.lt_merge.specs.Images.{IsImageOf}
 use Rattle.lt_merge.proofs.Along.{along_once}
-use Rattle.lt_merge.proofs.OneMatch.{one_match}
+use Rattle.lt_match.proofs.OneMatch.{one_match}
 
 -- ---- facets of a cone whose normals ascend
 

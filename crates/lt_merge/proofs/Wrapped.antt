@@ -1,12 +1,10 @@
 -- Sums of products modulo 2^128, and the numbers of the image of a normal one by one.
-use Rattle.std.proofs.Common.{◌≡◌, ℕ, ℤ, pos, ◌+ℤ◌, ◌*ℤ◌, ◌<◌, ◌+◌, ◌∙◌, refl, ap, arith, List, length, drop, get_or, drop-cons, add-one}
+use Rattle.std.proofs.Common.{◌≡◌, ℕ, ℤ, pos, ◌+ℤ◌, ◌*ℤ◌, ◌<◌, ◌+◌, ◌∙◌, ap, arith, List, length, drop, get_or}
 use Rattle.std.proofs.lemmas.Int.{ints, int_wrap-add_left, int_wrap-add_right}
 use Rattle.std.specs.Int.{int_wrap}
 use mir.Syntax.{w128}
 use Rattle.lt_model.specs.Vectors.{dot}
-
-dot-drop : (a b : List ℤ) (i : ℕ) → i < length a → i < length b → dot (drop i a) (drop i b) ≡ get_or a i (pos 0) *ℤ get_or b i (pos 0) +ℤ dot (drop (i + 1) a) (drop (i + 1) b)
-dot-drop a b i p q = rw (add-one i, drop-cons a i (pos 0), drop-cons b i (pos 0)) refl
+use Rattle.lt_lattice.proofs.Dots.{dot-drop}
 
 -- one product more of the sum
 pub wrapped_step : (a b : List ℤ) (i : ℕ) (s t : ℤ) → i < length a → i < length b → t ≡ int_wrap w128 (s +ℤ int_wrap w128 (get_or a i (pos 0) *ℤ get_or b i (pos 0))) → int_wrap w128 (s +ℤ dot (drop i a) (drop i b)) ≡ int_wrap w128 (dot a b) →

@@ -15,12 +15,14 @@ pub record IsOnto (a : Atlas) (j : ℕ) (u : List (List ℤ)) (n : List ℤ) : T
   pub carries : Carries a.dimension u from (entry_at a.entries j).triangulation
   pub facet : IsFacet a.dimension from n
 
--- facet g of entry j of a is the image of the normal n under u: it has at each form Q the value that n has at the form Q[u x]
+-- facet g of entry j of a is the image of the normal n under u: it has at each form Q the value that n has at the form
+-- Q[u x]
 pub record IsImage (a : Atlas) (j : ℕ) (u : List (List ℤ)) (n : List ℤ) (g : ℕ) : Type 0 where
   pub within : g < length (facets (entry_at a.entries j))
   pub along : IsNormalAlong a.dimension u n (facet_at a.entries (j, g))
 
--- entry j of a is the first onto which a matrix carries the triangulation of entry k of t, and u is the first such matrix
+-- entry j of a is the first onto which a matrix carries the triangulation of entry k of t, and u is the first such
+-- matrix
 abbrev pub IsPlaced : Atlas → ℕ → Atlas → ℕ → List (List ℤ) → Type 0
 IsPlaced t k a j u = IsFirstKnown a (entry_at t.entries k).triangulation j u
 
@@ -28,8 +30,8 @@ IsPlaced t k a j u = IsFirstKnown a (entry_at t.entries k).triangulation j u
 abbrev pub IsCrossedAt : Atlas → ℕ × ℕ → Type 0
 IsCrossedAt t p = (k : ℕ) × (u : List (List ℤ)) × (mark_at t.marks p ≡ cross k u)
 
--- facet q.1 of entry q.0 of a is the image of facet p.1 of entry p.0 of t: q.0 is the place of that entry, and the image is under the
--- matrix that places it
+-- facet q.1 of entry q.0 of a is the image of facet p.1 of entry p.0 of t: q.0 is the place of that entry, and the
+-- image is under the matrix that places it
 pub record IsImageOf (t : Atlas) (p : ℕ × ℕ) (a : Atlas) (q : ℕ × ℕ) : Type 0 where
   pub matrix : List (List ℤ)
   pub placed : IsPlaced t p.0 a q.0 matrix

@@ -17,12 +17,14 @@ pub record ArePaired (t a : Atlas) : Type 0 where
 abbrev pub FacetsHaveImages : Type 0
 FacetsHaveImages =
     (t a : Atlas) (p : ℕ × ℕ) (j : ℕ) (u : List (List ℤ)) → ArePaired t a → p.0 < length t.entries →
-    p.1 < length (facets (entry_at t.entries p.0)) → IsPlaced t p.0 a j u → (g : ℕ) × IsImage a j u (facet_at t.entries p) g
+    p.1 < length (facets (entry_at t.entries p.0)) → IsPlaced t p.0 a j u → (g : ℕ)
+    × IsImage a j u (facet_at t.entries p) g
 
 -- and it has one alone
 abbrev pub FacetsHaveOneImage : Type 0
 FacetsHaveOneImage =
-    (t a : Atlas) (p q r : ℕ × ℕ) → ArePaired t a → p.0 < length t.entries → IsImageOf t p a q → IsImageOf t p a r → q ≡ r
+    (t a : Atlas) (p q r : ℕ × ℕ) → ArePaired t a → p.0 < length t.entries → IsImageOf t p a q → IsImageOf t p a r
+    → q ≡ r
 
 -- the matrix carries what lies across the facet onto what lies across its image
 abbrev pub CrossingsGoToImages : Type 0

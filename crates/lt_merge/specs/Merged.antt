@@ -6,9 +6,9 @@ use Rattle.lt_model.specs.Logs.{IsKept}
 use Rattle.lt_merge.specs.Taken.{AreCovered, AreFrom, AreTakenOver}
 use Rattle.lt_merge.specs.Turns.{AreTurns}
 
--- a is s with all that comes before `end` in t: it is right and its log is legal; it begins with s; each entry of s, and each of those of t,
--- is equivalent to exactly one entry of it, and each of its entries to one of s or t; the images of the crossed facets are settled, each at
--- its turn, and nothing else is
+-- a is s with all that comes before `end` in t: it is right and its log is legal; it begins with s; each entry of s,
+-- and each of those of t, is equivalent to exactly one entry of it, and each of its entries to one of s or t; the
+-- images of the crossed facets are settled, each at its turn, and nothing else is
 pub record IsMergedTo (s t : Atlas) (end : ℕ × ℕ) (a : Atlas) : Type 0 where
   pub kept : IsKept (IsAcross a.dimension) a
   pub begins : begin a ≡ s

@@ -17,7 +17,8 @@ pub record IsMarkBefore (t : Atlas) (k : ℕ) (a : Atlas) (m : Mark) : Type 0 wh
   pub image : IsImageOf t origin a place
   pub mark : m ≡ mark_at a.marks place
 
--- a is s with all that comes before entry k in t; no entry of a is equivalent to entry k, and m is the mark, wide or heavy, behind which it lies
+-- a is s with all that comes before entry k in t; no entry of a is equivalent to entry k, and m is the mark, wide or
+-- heavy, behind which it lies
 pub record IsStuckAt (s t : Atlas) (k : ℕ) (m : Mark) (a : Atlas) : Type 0 where
   pub present : k < length t.entries
   pub merged : IsMergedTo s t (k, 0) a

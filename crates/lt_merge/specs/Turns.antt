@@ -11,7 +11,8 @@ pub record StandsAtImage (t : Atlas) (p : ℕ × ℕ) (a : Atlas) (x : ℕ) : Ty
   pub queued : x < length a.queue
   pub image : IsImageOf t p a (place_at a.queue x)
 
--- the events are those of the images of crossed facets of t that come before `end`, in their order, and each is what settling gives
+-- the events are those of the images of crossed facets of t that come before `end`, in their order, and each is what
+-- settling gives
 pub record AreTurns (t : Atlas) (end : ℕ × ℕ) (a : Atlas) : Type 0 where
   pub sources : List (ℕ × ℕ)
   pub count : length sources ≡ length a.log

@@ -63,7 +63,8 @@ fn image_number(d: usize, u: &Matrix, normal: &Normal, i: usize, j: usize) -> i1
     requires same { length normal.now ≡ numbers_of_form d }
     requires row { i < d }
     requires column { j < d }
-    ensures { let v = rows d u.now in result ≡ int_wrap w128 (dot (products (get_or v i []) (get_or v j [])) normal.now) }
+    ensures { let v = rows d u.now in result ≡ int_wrap w128 (dot (products (get_or v i []) (get_or v j []))
+        normal.now) }
 {
     let numbers = u.numbers();
     let products = product_numbers(row(numbers, d, i), row(numbers, d, j));

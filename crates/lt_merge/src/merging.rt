@@ -7,9 +7,9 @@ ghost use Rattle.lt_core.specs.Marks.{mark_of};
 ghost use Rattle.lt_merge.specs.Merged.{IsMergedTo, IsMerged};
 ghost use Rattle.lt_merge.specs.Refusals.{IsMarkBefore, IsRefusal};
 
-use crate::places::place_of;
 use crate::turns::{image_in, take_over_entry};
 use lt_core::{Atlas, Mark};
+use lt_crew::first_known;
 use lt_model::Memory;
 use std::alloc::Global;
 
@@ -55,7 +55,7 @@ fn mark_before(alloc: Global, atlas: &Atlas, second: &Atlas, k: u32) -> Result<M
         Some(origin) => origin,
         None => unreachable!(),
     };
-    match place_of(alloc, atlas, &second.entry(parent).triangulation)? {
+    match first_known(alloc, atlas, &second.entry(parent).triangulation)? {
         Some((place, u)) => {
             let image = image_in(atlas, second, parent, facet, place, &u);
             Ok(atlas.mark(place, image).copy())
@@ -80,7 +80,7 @@ pub fn merge(alloc: Global, first: Atlas, second: &Atlas) -> Result<Atlas, Merge
     second.keeps();
     let mut atlas = first;
     for k in 0..second.entries() {
-        match place_of(alloc, &atlas, &second.entry(k).triangulation)? {
+        match first_known(alloc, &atlas, &second.entry(k).triangulation)? {
             Some((place, u)) => take_over_entry(alloc, &mut atlas, second, k, place, &u)?,
             None => {
                 let mark = mark_before(alloc, &atlas, second, k)?;

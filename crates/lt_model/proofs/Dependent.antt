@@ -134,7 +134,7 @@ reduces d (a ∷ p) (k ∷ v) (z ∷ u) lp lv =
     in
     rw e (simp spread (omega (arith, ints, triple_is)))
 
-all_without : (P : List ℤ → Type 0) (i : ℕ) (vs : List (List ℤ)) → AllByRecursion P vs → AllByRecursion P (without i vs)
+pub all_without : (P : List ℤ → Type 0) (i : ℕ) (vs : List (List ℤ)) → AllByRecursion P vs → AllByRecursion P (without i vs)
 all_without P i [] h = tt
 all_without P zero (v ∷ vs) h = h.1
 all_without P (suc i) (v ∷ vs) h = (h.0, all_without P i vs h.1)

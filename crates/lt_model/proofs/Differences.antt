@@ -20,7 +20,7 @@ length-sum d v vs b some all l =
     let q : List ℤ = scale (negsuc 0) v in
     length-combine d b (translate q vs) (translate_all d q vs (length-scale (negsuc 0) v ∙ all.0) all.1) (l ∙ sym (length-translate q vs)) (omega (arith, length-translate q vs))
 
-total-none : (n : ℕ) → total (zeros n) ≡ pos 0
+pub total-none : (n : ℕ) → total (zeros n) ≡ pos 0
 total-none zero = omega (arith, ints)
 total-none (suc n) = omega (arith, ints, total-none n)
 

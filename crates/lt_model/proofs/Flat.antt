@@ -84,7 +84,7 @@ length-times (r ∷ u) v = ap suc (length-times u v)
 pub times_square : (d : ℕ) (u v : List (List ℤ)) → IsSquare d u → IsSquare d v → IsSquare d (times u v)
 times_square d u v hu hv = record { rows = length-times u v ∙ hu.rows; columns = times_all d u v hu.columns hv.columns hv.rows }
 
-longer_all : (d : ℕ) (u : List (List ℤ)) → AllOfDimension d u → AllOfDimension (suc d) (map (λ v. pos 0 ∷ v) u)
+pub longer_all : (d : ℕ) (u : List (List ℤ)) → AllOfDimension d u → AllOfDimension (suc d) (map (λ v. pos 0 ∷ v) u)
 longer_all d [] h = tt
 longer_all d (r ∷ u) h = (ap suc h.0, longer_all d u h.1)
 

@@ -1,5 +1,5 @@
 -- The order of ℤ with products.
-use Rattle.std.proofs.Common.{T, List, [], ◌∷◌, ◌≢◌, ◌≡◌, sym, ◌∙◌, ap, ℤ, pos, negsuc, ◌+ℤ◌, ◌-ℤ◌, ◌*ℤ◌, neg_ℤ, ◌≤ℤ◌, ◌<ℤ◌, arith, ◌<◌, mul-le-mul_left, mul-lt-mul_of_pos_right}
+use Rattle.std.proofs.Common.{T, List, [], ◌∷◌, ◌≢◌, ◌≡◌, sym, ◌∙◌, ap, ℤ, pos, negsuc, ◌+ℤ◌, ◌-ℤ◌, ◌*ℤ◌, neg_ℤ, ◌≤ℤ◌, ◌<ℤ◌, arith, ◌<◌, mul-le-mul_left, mul-lt-mul_of_pos_right, ℕ, refl}
 use Rattle.std.proofs.lemmas.Int.{ints, by_lt_z}
 use borrow.Author.Differences.{le_out, lt_out}
 use Rattle.lt_model.proofs.Integers.{neg_mul_z}
@@ -10,9 +10,6 @@ le_refl_z a = omega (arith, ints)
 
 pub le_trans_z : (a b c : ℤ) → a ≤ℤ b → b ≤ℤ c → a ≤ℤ c
 le_trans_z a b c h k = omega (arith, ints)
-
-pub add_le_add_z : (a b c d : ℤ) → a ≤ℤ b → c ≤ℤ d → (a +ℤ c) ≤ℤ (b +ℤ d)
-add_le_add_z a b c d h k = omega (arith, ints)
 
 pub mul_le_mul_z : (a b c : ℤ) → pos 0 ≤ℤ a → b ≤ℤ c → (a *ℤ b) ≤ℤ (a *ℤ c)
 mul_le_mul_z (pos n) b c h k = omega (arith, ints, mul-le-mul_left n (le_out b c k))
@@ -44,22 +41,11 @@ cancel_z a b c h e =
     let q = le_of_mul_le_mul_z a c b h (omega (arith, ints)) in
     omega (arith, ints)
 
-pub no_square_below : (a b : ℤ) → pos 0 ≤ℤ b → (a *ℤ a) ≤ℤ (b *ℤ b) → a ≤ℤ b
-no_square_below a b h k = by_lt_z b a
-    (λ l. let e = mul_le_mul_z b b a h (omega (arith, ints)) in
-    let f = mul_lt_mul_z a b a (omega (arith, ints)) l in
-    absurd (omega (arith, ints)))
-    (λ l. l)
-
 pub cancel_nonzero_z : (a b c : ℤ) → a ≢ pos 0 → a *ℤ b ≡ a *ℤ c → b ≡ c
 cancel_nonzero_z a b c n e = by_lt_z a (pos 0)
     (λ l. let f : neg_ℤ a *ℤ b ≡ neg_ℤ a *ℤ c = neg_mul_z a b ∙ ap neg_ℤ e ∙ sym (neg_mul_z a c) in cancel_z (neg_ℤ a) b c (omega (arith, ints)) f)
     (λ l. cancel_z a b c (omega (arith, ints, n)) e)
 
--- an order by the ring: the difference of the two sides is at least 0
-pub ring_le : (env : List ℤ) (a b s : Expr) → T (is_zero (norm (b ⊖ a ⊖ s))) → pos 0 ≤ℤ eval env s → eval env a ≤ℤ eval env b
-ring_le env a b s h k = let e = ring env (b ⊖ a) s h in omega (arith, ints)
-
--- for instance the square of a sum
-pub twice_product : (a b : ℤ) → (pos 2 *ℤ (a *ℤ b)) ≤ℤ (a *ℤ a +ℤ b *ℤ b)
-twice_product a b = ring_le (a ∷ b ∷ []) (num (pos 2) ⊗ (var 0 ⊗ var 1)) (var 0 ⊗ var 0 ⊕ var 1 ⊗ var 1) ((var 0 ⊖ var 1) ⊗ (var 0 ⊖ var 1)) tt (square_nonneg_z (a -ℤ b))
+pub natural : (c : ℤ) → pos 0 <ℤ c → (m : ℕ) × (c ≡ pos m) × (0 < m)
+natural (pos m) h = (m, refl, omega (arith, ints))
+natural (negsuc m) h = absurd (omega (arith, ints))

@@ -19,3 +19,5 @@ pub mod Cramer
 pub mod Exchange
 pub mod Hadamard
 pub mod Filtered
+pub mod Points
+pub mod Atlases

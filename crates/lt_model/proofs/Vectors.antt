@@ -1,5 +1,5 @@
 -- Laws of vectors of any length, and linearity of Q[x] in Q.
-use Rattle.std.proofs.Common.{◌≡◌, ℤ, ◌+ℤ◌, ◌*ℤ◌, refl, ap, arith, sym, ◌∙◌, List, [], ◌∷◌}
+use Rattle.std.proofs.Common.{◌≡◌, ℤ, ◌+ℤ◌, ◌*ℤ◌, refl, ap, arith, sym, ◌∙◌, List, [], ◌∷◌, map}
 use Rattle.std.proofs.lemmas.Int.{ints}
 use Rattle.std.proofs.Math.IntN.{*ℤ_comm, *ℤ-zero}
 use Rattle.lt_model.proofs.Integers.{spread, triple_is, mul_add_z, add_mul_z, mul_assoc_z}
@@ -51,6 +51,10 @@ add-scale j k (a ∷ x) = rw (add-scale j k x, add_mul_z j k a) refl
 pub scale-scale : (j k : ℤ) (x : List ℤ) → scale j (scale k x) ≡ scale (j *ℤ k) x
 scale-scale j k [] = refl
 scale-scale j k (a ∷ x) = rw (scale-scale j k x, mul_assoc_z j k a) refl
+
+pub map-is-scale : (k : ℤ) (xs : List ℤ) → map (λ z. k *ℤ z) xs ≡ scale k xs
+map-is-scale k [] = refl
+map-is-scale k (x ∷ xs) = ap (λ (t : List ℤ). (k *ℤ x) ∷ t) (map-is-scale k xs)
 
 -- Q[x] is linear in Q
 pub value-plus : (q r x : List ℤ) → value (plus q r) x ≡ value q x +ℤ value r x

@@ -10,6 +10,7 @@ use Rattle.lt_model.specs.Vectors.{plus, scale, dot, total, combine}
 use Rattle.lt_model.specs.Forms.{value}
 use Rattle.lt_model.specs.Simplices.{AllOfDimension, IsExpression, excess}
 use Rattle.lt_model.specs.Facets.{without, with_at, number_at}
+use Rattle.lt_model.proofs.Inequalities.{mul_pos_z}
 
 pub plus-nil : (x : List ℤ) → plus x [] ≡ x
 plus-nil [] = refl
@@ -96,13 +97,6 @@ step i j b f u u' e hi hj lb lf lu same =
         let e8 : rest ≡ bi *ℤ fu +ℤ neg_ℤ (fi *ℤ bu) = omega (arith, ints, e7, e9) in
         simp spread (rw e8 (omega (arith, ints, triple_is)))
 
-pub mul-positive : (a b : ℤ) → pos 0 <ℤ a → pos 0 <ℤ b → pos 0 <ℤ (a *ℤ b)
-mul-positive (pos zero) b h k = absurd (omega (arith, ints))
-mul-positive (pos (suc a)) (pos zero) h k = absurd (omega (arith, ints))
-mul-positive (pos (suc a)) (pos (suc b)) h k = omega (arith, ints)
-mul-positive (pos (suc a)) (negsuc b) h k = absurd (omega (arith, ints))
-mul-positive (negsuc a) b h k = absurd (omega (arith, ints))
-
 pub length-combine : (d : ℕ) (b : List ℤ) (vs : List (List ℤ)) → AllOfDimension d vs → length b ≡ length vs → 0 < length vs → length (combine b vs) ≡ d
 length-combine d [] [] all l h = absurd (omega arith)
 length-combine d [] (v ∷ vs) all l h = absurd (omega arith)
@@ -175,7 +169,7 @@ sum_end t fi c bi e h =
 pub next_expression : (d i j : ℕ) (vs ws : List (List ℤ)) (w : List ℤ) (m : ℤ) (x b f : List ℤ) (c e : ℤ) → IsStep d i j vs ws w m x b f c e → IsWeighted ws m x (neg_ℤ (number_at i f) *ℤ c) (next_coefficients i j b f e)
 next_expression d i j vs ws w m x b f c e s =
     record {
-      positive = mul-positive (neg_ℤ (number_at i f)) c (omega (arith, ints, s.vertex_beyond)) s.expression.positive;
+      positive = mul_pos_z (neg_ℤ (number_at i f)) c (omega (arith, ints, s.vertex_beyond)) s.expression.positive;
       one_each = one_each;
       point = same_from_dots (combine new ws) (scale c' x) (length-combine d new ws s.next_points one_each (omega (arith, s.next_place)) ∙ sym s.dimension ∙ sym (length-scale c' x)) agrees;
       sum = sums;
@@ -212,7 +206,7 @@ pub value_rises : (q : List ℤ) (d i j : ℕ) (vs ws : List (List ℤ)) (w : Li
     (neg_ℤ (number_at i f) *ℤ c *ℤ dot b (map (value q) vs)) <ℤ (c *ℤ dot (next_coefficients i j b f e) (map (value q) ws))
 value_rises q d i j vs ws w m x b f c e s h =
     let up_by : pos 0 <ℤ (c *ℤ (neg_ℤ (number_at i b) *ℤ excess q vs w e f)) =
-    mul-positive c (neg_ℤ (number_at i b) *ℤ excess q vs w e f) s.expression.positive (mul-positive (neg_ℤ (number_at i b)) (excess q vs w e f) (omega (arith, ints, s.beyond)) h)
+    mul_pos_z c (neg_ℤ (number_at i b) *ℤ excess q vs w e f) s.expression.positive (mul_pos_z (neg_ℤ (number_at i b)) (excess q vs w e f) (omega (arith, ints, s.beyond)) h)
     in
     rises_end c (number_at i b) (number_at i f) (dot b (map (value q) vs)) (excess q vs w e f) (dot (next_coefficients i j b f e) (map (value q) ws)) (step_at (value q) d i j vs ws w m x b f c e s) up_by
   where

@@ -36,8 +36,8 @@ pub record AreRests (b e k l : ℤ) : Type 0 where
   pub first : g *ℤ k ≡ b
   pub second : g *ℤ l ≡ e
 
--- what the sum is computed from fits 128 bits: with the denominators b and e and g their greatest common divisor, each numerator
--- times the other denominator divided by g, their sum, and b (e / g)
+-- what the sum is computed from fits 128 bits: with the denominators b and e and g their greatest common divisor, each
+-- numerator times the other denominator divided by g, their sum, and b (e / g)
 pub record IsSumWithin (p q : Ratio) : Type 0 where
   pub k : ℤ
   pub l : ℤ

@@ -57,7 +57,8 @@ impl Fraction {
     /// The sum of a/b and c/e. With g the greatest common divisor of b and e, it is refused exactly where a(e/g), c(b/g), their sum
     /// or b(e/g) does not fit 128 bits.
     pub fn add(&self, other: &Fraction) -> Result<Fraction, TooLarge>
-        ensures { MatchResult result (λ s. IsSumWithin self.now other.now × IsSum self.now other.now s) (λ _. IsSumWithin self.now other.now → ⊥) }
+        ensures { MatchResult result (λ s. IsSumWithin self.now other.now × IsSum self.now other.now s)
+            (λ _. IsSumWithin self.now other.now → ⊥) }
     {
         let (own, rest) = rests(self.den, other.den);
         let left = mul(self.num, rest)?;
@@ -69,7 +70,8 @@ impl Fraction {
 
     /// The product. It is refused exactly where its lowest terms do not fit 128 bits.
     pub fn mul(&self, other: &Fraction) -> Result<Fraction, TooLarge>
-        ensures { MatchResult result (IsProduct self.now other.now) (λ _. IsTooLarge (self.now.num *ℤ other.now.num) (self.now.den *ℤ other.now.den)) }
+        ensures { MatchResult result (IsProduct self.now other.now)
+            (λ _. IsTooLarge (self.now.num *ℤ other.now.num) (self.now.den *ℤ other.now.den)) }
     {
         let (own_num, rest_den) = rests(self.num, other.den);
         let (rest_num, own_den) = rests(other.num, self.den);
@@ -80,7 +82,9 @@ impl Fraction {
 
     /// The order of the two fractions. It is exact, also where products of their parts do not fit 128 bits.
     pub fn cmp(&self, other: &Fraction) -> Ordering
-        ensures { MatchOrdering result ((self.now.num *ℤ other.now.den) <ℤ (other.now.num *ℤ self.now.den)) (self.now.num *ℤ other.now.den ≡ other.now.num *ℤ self.now.den) ((other.now.num *ℤ self.now.den) <ℤ (self.now.num *ℤ other.now.den)) }
+        ensures { MatchOrdering result ((self.now.num *ℤ other.now.den) <ℤ (other.now.num *ℤ self.now.den))
+            (self.now.num *ℤ other.now.den ≡ other.now.num *ℤ self.now.den)
+            ((other.now.num *ℤ self.now.den) <ℤ (self.now.num *ℤ other.now.den)) }
     {
         compare(self.num, self.den, other.num, other.den)
     }
@@ -126,7 +130,8 @@ fn compare(a: i128, b: i128, c: i128, e: i128) -> Ordering
 fn from_parts(top: u128, bottom: u128, negative: bool) -> Result<Fraction, TooLarge>
     requires positive { 0 < bottom }
     requires lowest { IsGcd top bottom 1 }
-    ensures { MatchResult result (λ q. q ≡ signed_ratio negative top bottom) (λ _. Fits (signed_ratio negative top bottom) → ⊥) }
+    ensures { MatchResult result (λ q. q ≡ signed_ratio negative top bottom)
+        (λ _. Fits (signed_ratio negative top bottom) → ⊥) }
 {
     let num = signed(top, negative)?;
     let den = signed(bottom, false)?;
@@ -135,7 +140,8 @@ fn from_parts(top: u128, bottom: u128, negative: bool) -> Result<Fraction, TooLa
 
 /// The number of this absolute value and sign.
 fn signed(magnitude: u128, negative: bool) -> Result<i128, TooLarge>
-    ensures { MatchResult result (λ z. z ≡ cond negative (neg_ℤ (pos magnitude)) (pos magnitude)) (λ _. FitsSigned w128 (cond negative (neg_ℤ (pos magnitude)) (pos magnitude)) → ⊥) }
+    ensures { MatchResult result (λ z. z ≡ cond negative (neg_ℤ (pos magnitude)) (pos magnitude))
+        (λ _. FitsSigned w128 (cond negative (neg_ℤ (pos magnitude)) (pos magnitude)) → ⊥) }
 {
     if magnitude <= i128::MAX as u128 {
         let number = magnitude as i128;

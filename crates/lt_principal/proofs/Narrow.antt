@@ -1,21 +1,15 @@
 -- The principal triangulation has a span of at most 1.
-use Rattle.std.proofs.Common.{◌≡◌, ℕ, zero, suc, ℤ, pos, negsuc, ◌+ℤ◌, ◌*ℤ◌, ◌<◌, ◌≤◌, refl, ap, arith, sym, ◌∙◌, subst, List, [], ◌∷◌, length, map, nat_abs, nat_le, max, cond, Bool, true, false, ◌⊎◌, inl, inr}
+use Rattle.std.proofs.Common.{◌≡◌, ℕ, zero, suc, ℤ, pos, negsuc, ◌+ℤ◌, ◌*ℤ◌, ◌<◌, ◌≤◌, refl, arith, sym, subst, List, [], ◌∷◌, length, map, nat_abs, nat_le, cond, Bool, true, false, inl, inr}
 use Rattle.std.proofs.lemmas.Int.{ints}
 use Rattle.std.specs.List.{AllByRecursion, Contains}
 use Rattle.lt_model.specs.Limits.{greatest, gap, class_span, span, span_limit}
-use Rattle.lt_model.specs.Vectors.{plus, minus, scale, zeros, unit}
+use Rattle.lt_model.specs.Vectors.{plus, zeros, unit}
 use Rattle.lt_model.specs.Facets.{number_at}
 use Rattle.lt_model.specs.Principal.{IsOrder, IsPrincipal, path_from, principal_class}
-use Rattle.lt_model.proofs.Sets.{Contains-head, Contains-tail, Contains-cases, Contains-none, each_holds}
-use Rattle.lt_geometry.proofs.Closed.{plus-zeros}
+use Rattle.lt_model.proofs.Sets.{Contains-head, Contains-cases, Contains-none}
+use Rattle.lt_model.proofs.Points.{plus-zeros}
 use Rattle.lt_geometry.proofs.Paths.{IsBit, IsFree, free_next, free_order}
-
-greatest_map : {X : Type 0} (f : X → ℕ) (xs : List X) (m : ℕ) → ((x : X) → Contains xs x → f x ≤ m) → greatest (map f xs) ≤ m
-greatest_map f [] m h = omega arith
-greatest_map f (x ∷ xs) m h =
-    let first : f x ≤ m = h x (Contains-head x xs) in
-    let rest : greatest (map f xs) ≤ m = greatest_map f xs m (λ y c. h y (Contains-tail x xs y c)) in
-    omega (arith, first, rest)
+use Rattle.lt_triang.proofs.Gaps.{greatest_at_most}
 
 abbrev pub AreBits : List ℤ → Type 0
 AreBits v = AllByRecursion IsBit v
@@ -69,13 +63,13 @@ path_bits d u (k ∷ p) h b v c =
 class_narrow : (d : ℕ) (p : List ℕ) → IsOrder d p → class_span (principal_class d p) ≤ 1
 class_narrow d p o =
     let bits : (v : List ℤ) → Contains (principal_class d p) v → AreBits v = path_bits d (zeros d) p (free_order d p o) (zeros_are_bits d) in
-    greatest_map (λ v. greatest (map (gap v) (principal_class d p))) (principal_class d p) 1
-    (λ v c. greatest_map (gap v) (principal_class d p) 1 (λ w e. gap_of_bits v w (bits v c) (bits w e)))
+    greatest_at_most (λ v. greatest (map (gap v) (principal_class d p))) (principal_class d p) 1
+    (λ v c. greatest_at_most (gap v) (principal_class d p) 1 (λ w e. gap_of_bits v w (bits v c) (bits w e)))
 
 -- the list of classes may hold them in any order
 pub principal_narrow : (d : ℕ) (t given : List (List (List ℤ))) → IsPrincipal d t → ((s : List (List ℤ)) → Contains given s → Contains t s) → span given ≤ span_limit d
 principal_narrow d t given h has =
-    let one : span given ≤ 1 = greatest_map class_span given 1 (λ s c. of_member s ((h.members s).0 (has s c))) in
+    let one : span given ≤ 1 = greatest_at_most class_span given 1 (λ s c. of_member s ((h.members s).0 (has s c))) in
     omega (arith, one, some_limit d)
   where
     of_member : (s : List (List ℤ)) → (p : List ℕ) × IsOrder d p × (s ≡ principal_class d p) → class_span s ≤ 1

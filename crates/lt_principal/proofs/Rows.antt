@@ -29,11 +29,6 @@ row_pushed d i all m p h = rw append_assoc (rw (rows_begin d i p) at h)
 pub two_pushed : (d j : ℕ) (all r m : List ℤ) → j < d → all ++ (twos (d - j) ++ r) ≡ m → (all ++ negsuc 1 ∷ []) ++ (twos (d - (j + 1)) ++ r) ≡ m
 two_pushed d j all r m p h = rw append_assoc (rw (twos_begin d j p) at h)
 
-pub row_ends : (d j : ℕ) (all r m : List ℤ) → d ≤ j → all ++ (twos (d - j) ++ r) ≡ m → all ++ r ≡ m
-row_ends d j all r m p h =
-    let e : d - j ≡ 0 = omega arith in
-    rw e at h
-
 pub form_length : (d : ℕ) → 2 ≤ d → d ≤ 6 → IsFormLength (numbers_of_form d)
 form_length zero l h = absurd (omega arith)
 form_length (suc zero) l h = absurd (omega arith)

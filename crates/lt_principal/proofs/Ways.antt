@@ -23,10 +23,6 @@ before_each-next : (path : List (List ℤ)) (x : List ℤ) (all : List (List (Li
 before_each-next path x [] = refl
 before_each-next path x (t ∷ all) = rw (append_assoc path (x ∷ []) t) (ap (λ l. (path ++ x ∷ t) ∷ l) (before_each-next path x all))
 
-pub no_steps : (d n : ℕ) (x : List ℤ) → n ≡ 0 → ways d n x ≡ [] ∷ []
-no_steps d zero x h = refl
-no_steps d (suc n) x h = absurd (omega arith)
-
 pub some_steps : (d n : ℕ) (x : List ℤ) → n ≢ 0 → ways d n x ≡ ways_below d (ways d (n - 1)) x d
 some_steps d zero x h = absurd (h refl)
 some_steps d (suc n) x h =
@@ -79,10 +75,6 @@ pub last_appended : (path : List (List ℤ)) (x : List ℤ) → last_point (path
 last_appended path x =
     let e : length (path ++ x ∷ []) - 1 ≡ length path = omega (arith, length-append path (x ∷ [])) in
     ap (λ n. get_or (path ++ x ∷ []) n []) e ∙ get_last path x []
-
-pub all_appended : (d : ℕ) (path : List (List ℤ)) (x : List ℤ) → AllOfDimension d path → length x ≡ d → AllOfDimension d (path ++ x ∷ [])
-all_appended d [] x h l = (l, tt)
-all_appended d (v ∷ path) x h l = (h.0, all_appended d path x h.1 l)
 
 -- one more number of a list
 pub taken_more : (xs : List ℤ) (i : ℕ) (ys : List ℤ) (y : ℤ) → i < length xs → ys ≡ take i xs → y ≡ number_at i xs → ys ++ y ∷ [] ≡ take (i + 1) xs

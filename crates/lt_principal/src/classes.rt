@@ -82,7 +82,8 @@ fn push_paths(
     requires count { length path.now + steps ≡ d + 1 }
     requires some { 0 < length path.now }
     requires dimension { AllOfDimension d path.now }
-    ensures { OnOk result (points_of out.new.items ≡ points_of out.old.items ++ before_each path.now (ways d steps (last_point path.now))) }
+    ensures { OnOk result (points_of out.new.items ≡ points_of out.old.items ++ before_each path.now
+        (ways d steps (last_point path.now))) }
 {
     if steps == 0 {
         return push_copy(path, out);

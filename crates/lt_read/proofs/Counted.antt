@@ -1,15 +1,12 @@
 -- The entries of a text in its ranges: each has a mark for each of its facets, and the matrices of their crosses are square. Proved;
 -- `one_each` and `all_square` are what the check of crosses asks for, and `square_rows` tells the rows of such a matrix.
-use Rattle.std.proofs.Common.{◌≡◌, ℕ, zero, suc, ℤ, ◌+◌, ◌*◌, ◌<◌, ◌≤◌, inl, inr, sym, ap, ◌∙◌, subst, arith, List, [], ◌∷◌, length, get_or}
+use Rattle.std.proofs.Common.{◌≡◌, ℕ, zero, suc, ◌+◌, ◌<◌, ◌≤◌, inl, inr, sym, ap, ◌∙◌, subst, arith, List, [], ◌∷◌, length, get_or}
 use Rattle.std.proofs.lemmas.Bool.{cases_lt}
 use Rattle.std.proofs.lemmas.List.{get_or_past}
 use Rattle.std.proofs.lemmas.List.Elements.{All-from_recursion}
-use Rattle.lt_model.specs.Flat.{rows}
 use Rattle.lt_model.specs.Atlases as model
 use Rattle.lt_grammar.specs.Texts.{Mark, cross, heavy, Entry}
 use Rattle.lt_grammar.specs.Ranges.{MarkFits, EntryFits, EntriesFit}
-use Rattle.lt_core.specs.Marks.{side, matrix_rows}
-use Rattle.lt_core.proofs.Standing.{side_of}
 use Rattle.lt_read.specs.Refused.{entry_at, normals_of}
 use Rattle.lt_read.specs.Built.{spelt_at, AreMarks, AreBuilt, IsSquareMark}
 use Rattle.lt_read.proofs.Passing.{normals}
@@ -20,10 +17,6 @@ pub entry_fits : (d j : ℕ) (es : List Entry) (k n : ℕ) → EntriesFit d j es
 entry_fits d j [] k n h l e = absurd (omega (arith, l))
 entry_fits d j (x ∷ es) zero n h l e = let s : j ≡ n = omega (arith, e) in subst (λ (m : ℕ). EntryFits d m x) s h.0
 entry_fits d j (x ∷ es) (suc k) n h l e = entry_fits d (suc j) es k n h.1 (omega (arith, l)) (omega (arith, e))
-
--- the rows of a square matrix, which its length tells
-pub square_rows : (d : ℕ) (u : List ℤ) → 2 ≤ d → d ≤ 6 → length u ≡ d * d → matrix_rows u ≡ rows d u
-square_rows d u low high long = ap (λ n. rows n u) (ap side long ∙ side_of d low high)
 
 square_cross : (d : ℕ) (m : Mark) → MarkFits d m → IsSquareMark d m
 square_cross d m h k u e = let c : MarkFits d (cross k u) = subst (MarkFits d) e h in c.1.0

@@ -3,15 +3,16 @@ use Rattle.std.proofs.Common.{◌≡◌, ℕ, suc, ◌^◌, ◌<◌, ◌≤◌, 
 use Rattle.std.specs.List.{AllByRecursion}
 use Rattle.lt_model.specs.Atlases as model
 use Rattle.lt_model.specs.Atlases.{count_in, one_if_stuck, stuck}
+use Rattle.lt_model.proofs.Atlases.{facets_most}
+use Rattle.lt_core.proofs.Standing.{square_rows}
 use Rattle.lt_grammar.specs.Texts.{Mark, open_mark, cross, wide, heavy, Entry}
 use Rattle.lt_grammar.specs.Ranges.{MarkFits, EntriesFit}
 use Rattle.lt_grammar.specs.Parsed.{mark_of, entries_of}
 use Rattle.lt_grammar.specs.declared.parsed.RawMark.{RawMark}
 use Rattle.lt_grammar.specs.declared.parsed.RawEntry.{RawEntry}
-use Rattle.lt_core.proofs.FewFacets.{facets_most}
 use Rattle.lt_read.specs.Refused.{entry_at, read_mark}
 use Rattle.lt_read.specs.Built.{spelt_marks, AreMarks, AreBuilt, kept_mark}
-use Rattle.lt_read.proofs.Counted.{fits_at, square_rows}
+use Rattle.lt_read.proofs.Counted.{fits_at}
 
 -- ---- one mark
 

@@ -22,7 +22,7 @@ use Rattle.lt_read.specs.declared.refusals.Refusal.TheVariants.{TooLong, Syntax,
 use Rattle.lt_read.proofs.Passing.{listed_same}
 use Rattle.lt_read.proofs.OnePassing.{one_listed, one_passed}
 use Rattle.lt_read.proofs.Earlier.{front_passed, same_front}
-use Rattle.lt_read.proofs.OneMatch.{one_match}
+use Rattle.lt_match.proofs.OneMatch.{one_match}
 
 -- ---- places in order
 

@@ -8,8 +8,9 @@ use Rattle.lt_model.specs.Walls.{IsAcross}
 use Rattle.lt_model.specs.Atlases.{Classes, Mark, no_mark, Entry, Atlas, entry_at, facets, stuck, begin}
 use Rattle.lt_model.specs.Logs.{IsKept}
 use Rattle.lt_model.proofs.Sets.{Contains-head, Contains-tail}
+use Rattle.lt_model.proofs.Atlases.{facets_most}
 use Rattle.lt_core.proofs.Crossings.{HasForm, across_laws}
-use Rattle.lt_core.proofs.FewFacets.{few_rows, facets_most}
+use Rattle.lt_core.proofs.FewFacets.{few_rows}
 use Rattle.lt_core.proofs.Reaching.{entry_form}
 use Rattle.lt_geometry.proofs.Fewness.{few_classes}
 use Rattle.lt_triang.proofs.Gaps.{near_from_span}

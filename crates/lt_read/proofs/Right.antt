@@ -19,9 +19,10 @@ use Rattle.lt_core.proofs.Reaching.{classes_of_form}
 use Rattle.lt_core.proofs.Recording.{cross_parts}
 use Rattle.lt_core.proofs.Sounds.{identity_rows}
 use Rattle.lt_core.proofs.Undo.{mark_within}
+use Rattle.lt_core.proofs.Standing.{square_rows}
 use Rattle.lt_read.specs.Refused.{entry_at, IsListed}
 use Rattle.lt_read.specs.Built.{spelt_at, AreSound, AreMarks, AreBuilt, triangulations, kept_mark, AreRightMarks, HasNoTwin}
-use Rattle.lt_read.proofs.Counted.{fits_at, one_each, all_square, square_rows}
+use Rattle.lt_read.proofs.Counted.{fits_at, one_each, all_square}
 use Rattle.lt_read.proofs.Likes.{has_form}
 use Rattle.lt_read.proofs.Plain.{no_mark_is_cross}
 use Rattle.lt_read.proofs.Passing.{tri, normals, mark_there, across_from}

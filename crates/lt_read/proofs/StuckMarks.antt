@@ -1,13 +1,13 @@
 -- A wide or heavy mark of an atlas that began without one is that of an event of its log.
-use Rattle.std.proofs.Common.{◌≡◌, ◌≢◌, ◌⊎◌, ℕ, zero, suc, ℤ, ◌+◌, ◌-◌, ◌<◌, ◌≤◌, inl, inr, sym, ap, ◌∙◌, subst, arith, List, [], ◌∷◌, map, drop, length, get_or, length-drop}
+use Rattle.std.proofs.Common.{◌≡◌, ℕ, zero, suc, ℤ, ◌+◌, ◌-◌, ◌<◌, ◌≤◌, inl, inr, sym, ap, ◌∙◌, subst, arith, List, [], ◌∷◌, map, drop, length, get_or}
 use Rattle.std.specs.List.{Contains}
-use Rattle.std.proofs.lemmas.Bool.{cases_eq, cases_lt}
+use Rattle.std.proofs.lemmas.Bool.{cases_lt}
 use Rattle.std.proofs.lemmas.List.{length-map, get_or-take, length-take-le, get_or-drop, get_or_default}
 use Rattle.std.proofs.lemmas.List.Elements.{Contains-append_left, Contains-append_right}
-use Rattle.lt_model.specs.Atlases.{Classes, Mark, open_mark, no_mark, Event, Atlas, mark_at, place_at, event_at, places_from, one_if_stuck, count_in, count, stuck, begin}
+use Rattle.lt_model.specs.Atlases.{Classes, Mark, open_mark, no_mark, Atlas, mark_at, place_at, event_at, one_if_stuck, count_in, count, stuck, begin}
 use Rattle.lt_model.specs.RightAtlases.{all_places, open_places}
 use Rattle.lt_model.specs.Logs.{IsKept}
-use Rattle.lt_model.proofs.Sets.{Contains-head, Contains-tail}
+use Rattle.lt_model.proofs.Atlases.{placed_all, event_there}
 use Rattle.lt_core.specs.Beginnings.{fresh_events, Stands}
 use Rattle.lt_core.proofs.Begun.{placed, begin-lengths}
 use Rattle.lt_core.proofs.Undone.{lengths, no_length, all_stand}
@@ -26,42 +26,6 @@ none_of c mss p e l s = at mss p.0 p.1 e l s
     at [] k f e l s = absurd (omega (arith, l))
     at (ms ∷ mss) zero f e l s = none_in c ms f (omega (arith, e)) s
     at (ms ∷ mss) (suc k) f e l s = at mss k f (omega (arith, e)) (omega (arith, l)) s
-
--- ---- places of the queue
-
-placed_from : (k f n i : ℕ) → i < n → Contains (places_from k f n) (k, f + i)
-placed_from k f zero i l = absurd (omega (arith, l))
-placed_from k f (suc n) zero l = let e : f ≡ f + 0 = omega arith in subst (λ (j : ℕ). Contains ((k, f) ∷ places_from k (suc f) n) (k, j)) e (Contains-head (k, f) (places_from k (suc f) n))
-placed_from k f (suc n) (suc i) l =
-    let e : suc f + i ≡ f + suc i = omega arith in
-    Contains-tail (k, f) (places_from k (suc f) n) (k, f + suc i) (subst (λ (j : ℕ). Contains (places_from k (suc f) n) (k, j)) e (placed_from k (suc f) n i (omega (arith, l))))
-
-placed_all : (k : ℕ) (ns : List ℕ) (j f : ℕ) → j < length ns → f < get_or ns j 0 → Contains (all_places k ns) (k + j, f)
-placed_all k [] j f l s = absurd (omega (arith, l))
-placed_all k (n ∷ ns) zero f l s =
-    let e : k ≡ k + 0 = omega arith in
-    let z : 0 + f ≡ f = omega arith in
-    Contains-append_left (places_from k 0 n) (all_places (suc k) ns) (k + 0, f) (subst (λ (j : ℕ). Contains (places_from k 0 n) (j, f)) e (subst (λ (i : ℕ). Contains (places_from k 0 n) (k, i)) z (placed_from k 0 n f s)))
-placed_all k (n ∷ ns) (suc j) f l s =
-    let e : suc k + j ≡ k + suc j = omega arith in
-    Contains-append_right (places_from k 0 n) (all_places (suc k) ns) (k + suc j, f) (subst (λ (i : ℕ). Contains (all_places (suc k) ns) (i, f)) e (placed_all (suc k) ns j f (omega (arith, l)) s))
-
--- ---- events
-
-event_or_none : (l : List Event) (p : ℕ) → ((i : ℕ) × (i < length l) × ((event_at l i).position ≡ p)) ⊎ ((i : ℕ) → i < length l → (event_at l i).position ≢ p)
-event_or_none [] p = inr (λ i l. absurd (omega (arith, l)))
-event_or_none (e ∷ l) p =
-    elim (cases_eq e.position p) [
-      | inl s ↦ inl (0, omega arith, s)
-      | inr n ↦ elim (event_or_none l p) [
-        | inl r ↦ inl (suc r.0, (let h = r.1 in omega (arith, h)), r.2)
-        | inr none ↦ inr (λ i h. at n none i h)
-      ]
-    ]
-  where
-    at : e.position ≢ p → ((i : ℕ) → i < length l → (event_at l i).position ≢ p) → (i : ℕ) → i < length (e ∷ l) → (event_at (e ∷ l) i).position ≢ p
-    at n none zero h = n
-    at n none (suc i) h = none i (omega (arith, h))
 
 open_is_not_stuck : (m : Mark) → one_if_stuck m ≡ 1 → m ≡ open_mark → ⊥
 open_is_not_stuck m h e = let s : one_if_stuck m ≡ 0 = ap one_if_stuck e in omega (arith, h, s)
@@ -92,10 +56,8 @@ module _ (Beyond : Classes → List ℤ → Classes → Type 0) (a : Atlas) (kep
       let ns : List ℕ = map length a.marks in
       let j : ℕ = p.0 - length old in
       let e : length old + j ≡ p.0 = omega (arith, g) in
-      let long = length-map a.marks length in
-      let rest = length-drop (length old) ns in
       let row : get_or (drop (length old) ns) j 0 ≡ length (get_or a.marks p.0 []) = get_or-drop (length old) ns j 0 ∙ ap (λ (k : ℕ). get_or ns k 0) e ∙ sym (no_length a.marks p.0) in
-      subst (λ (k : ℕ). Contains (all_places (length old) (drop (length old) ns)) (k, p.1)) e (placed_all (length old) (drop (length old) ns) j p.1 (omega (arith, l, long, rest, g)) (omega (arith, s, row)))
+      subst (λ (k : ℕ). Contains (all_places (length old) (drop (length old) ns)) (k, p.1)) e (placed_all (length old) (drop (length old) ns) j p.1 (omega (arith, s, row)))
 
   queued : Contains a.queue p
   queued =
@@ -112,7 +74,7 @@ module _ (Beyond : Classes → List ℤ → Classes → Type 0) (a : Atlas) (kep
       at : Contains a.queue p → (i : ℕ) × (i < length a.log) × ((event_at a.log i).mark ≡ mark_at a.marks p)
       at (x, b, e) =
           let is : place_at a.queue x ≡ p = get_or_default a.queue x (0, 0) p b ∙ e in
-          elim (event_or_none a.log x) [
+          elim (event_there a.log x (length a.log)) [
             | inl r ↦ (r.0, r.1, sym (kept.legal.standing r.0 r.1) ∙ ap (λ (y : ℕ). mark_at a.marks (place_at a.queue y)) r.2 ∙ ap (mark_at a.marks) is)
             | inr none ↦ absurd (open_is_not_stuck (mark_at a.marks p) h (ap (mark_at a.marks) (sym is) ∙ kept.legal.rest x b none))
           ]

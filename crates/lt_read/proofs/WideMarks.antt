@@ -9,15 +9,14 @@ use Rattle.lt_model.specs.Simplices.{IsClass}
 use Rattle.lt_model.specs.Vectors.{plus}
 use Rattle.lt_model.specs.Walls.{IsAcross}
 use Rattle.lt_model.proofs.Flat.{length-flat}
-use Rattle.lt_model.proofs.Sets.{each_holds}
+use Rattle.lt_model.proofs.Sets.{each_holds, Contains-map}
 use Rattle.lt_geometry.proofs.Listed.{across_is_flip}
-use Rattle.lt_geometry.proofs.Motions.{Contains-map}
 use Rattle.lt_lattice.specs.Ranges.{IsWithin}
 use Rattle.lt_triang.specs.Across.{IsOuterVertex}
 use Rattle.lt_triang.specs.Bounds.{AreNear}
 use Rattle.lt_triang.specs.Kept.{IsTriangulation}
 use Rattle.lt_triang.proofs.Columned.{All-flat}
-use Rattle.lt_triang.proofs.Gaps.{le_greatest, contains_map, within_from_near}
+use Rattle.lt_triang.proofs.Gaps.{le_greatest, within_from_near}
 use Rattle.lt_triang.proofs.Least.{minus-plus}
 use Rattle.lt_triang.proofs.Shifts.{contains_without}
 use Rattle.lt_flip.proofs.Near.{outer_near}
@@ -57,7 +56,7 @@ pub record IsNearClass (d : ℕ) (s : List (List ℤ)) : Type 0 where
 pub wide_near : (d : ℕ) (n : List ℤ) (t t' : List (List (List ℤ))) (s : List (List ℤ)) → 2 ≤ d → d ≤ 6 → span t ≤ span_limit d → IsAcross d t n t' → Contains t' s → span_limit d < class_span s → IsNearClass d s
 wide_near d n t t' s low high narrow x c above =
     elim (((across_is_flip d n t t' low x).members s).0 c) [
-      | inl old ↦ (let l = le_greatest (map class_span t) (class_span s) (contains_map class_span t s old.0) in absurd (omega (arith, l, narrow, above)))
+      | inl old ↦ (let l = le_greatest (map class_span t) (class_span s) (Contains-map class_span t s old.0) in absurd (omega (arith, l, narrow, above)))
       | inr e ↦ record { «class» = e.class_of.«class»; near = exchanged_near d t n (negsuc 0) s tri e }
     ]
   where

@@ -1,4 +1,4 @@
--- Sorting and dropping equal neighbours gives each normal once, in ascending order; the list of the regulators of all facets.
+-- Sorting and dropping equal neighbours gives each point of a list once, in ascending order.
 use Rattle.std.proofs.Common.{◌≡◌, ℤ, refl, sym, ◌∙◌, subst, Bool, true, List, ◌↔◌}
 use Rattle.std.specs.declared.cmp.Ordering.{Ordering}
 use Rattle.std.specs.declared.cmp.Ordering.TheVariants.{Less, Equal, Greater}

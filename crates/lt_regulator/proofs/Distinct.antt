@@ -11,15 +11,16 @@ use Rattle.lt_model.specs.Triangulations.{IsDelaunay}
 use Rattle.lt_model.specs.Walls.{AreRegulators, IsRegulator}
 use Rattle.lt_model.proofs.Sets.{number_list_cmp_total, same_members}
 use Rattle.lt_model.proofs.Vectors.{dot-scale}
-use Rattle.lt_geometry.proofs.Choices.{AreApart, apart_from_sorted}
 use Rattle.lt_geometry.proofs.Primitive.{same_primitive}
 use Rattle.lt_geometry.proofs.Regulators.{regulators_positive, has_regulator}
+use Rattle.lt_geometry.proofs.Rearranged.{IsDistinct}
+use Rattle.lt_geometry.proofs.Sorting.{sorted_is_distinct}
 
 -- the regulators are one list
 pub one_list : (d : ℕ) (t : List (List (List ℤ))) (ns ms : List (List ℤ)) → AreRegulators d t ns → AreRegulators d t ms → ns ≡ ms
 one_list d t ns ms a b = same_members number_list_cmp number_list_cmp_total ns ms a.ascending b.ascending (λ n. ((λ c. (b.members n).1 ((a.members n).0 c)), (λ c. (a.members n).1 ((b.members n).0 c))))
 
-apart_at : (xs : List (List ℤ)) → AreApart xs → (i j : ℕ) → i < j → j < length xs → get_or xs i [] ≡ get_or xs j [] → ⊥
+apart_at : (xs : List (List ℤ)) → IsDistinct xs → (i j : ℕ) → i < j → j < length xs → get_or xs i [] ≡ get_or xs j [] → ⊥
 apart_at [] a i j h l e = absurd (omega arith)
 apart_at (x ∷ xs) a i zero h l e = absurd (omega arith)
 apart_at (x ∷ xs) a zero (suc j) h l e = a.0 (subst (Contains xs) (sym e) (Contains-get_or xs j [] (omega arith)))
@@ -42,8 +43,8 @@ module _ (d : ℕ) (q : List ℤ) (t : List (List (List ℤ))) (ns : List (List 
   positive_at i l = (regulators_positive d q t (get_or ns i []) k (regulator_at i l)).2
 
   differ : (i j : ℕ) → i < length ns → j < length ns → i ≢ j → get_or ns i [] ≡ get_or ns j [] → Dec (i ≤ j) → ⊥
-  differ i j li lj ne e (yes h) = apart_at ns (apart_from_sorted number_list_cmp number_list_cmp_total ns r.ascending) i j (omega (arith, ne)) lj e
-  differ i j li lj ne e (no h) = apart_at ns (apart_from_sorted number_list_cmp number_list_cmp_total ns r.ascending) j i (omega arith) li (sym e)
+  differ i j li lj ne e (yes h) = apart_at ns (sorted_is_distinct number_list_cmp number_list_cmp_total ns r.ascending) i j (omega (arith, ne)) lj e
+  differ i j li lj ne e (no h) = apart_at ns (sorted_is_distinct number_list_cmp number_list_cmp_total ns r.ascending) j i (omega arith) li (sym e)
 
   -- primitive, so no two lie on one ray
   pub regulator_rays : (i j : ℕ) → i < length ns → j < length ns → i ≢ j → (g h : ℕ) → 0 < g → 0 < h → scale (pos g) (get_or ns i []) ≢ scale (pos h) (get_or ns j [])

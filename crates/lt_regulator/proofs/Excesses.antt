@@ -9,11 +9,11 @@ use Rattle.lt_model.specs.Walls.{excess_normal}
 use Rattle.lt_model.specs.Simplices.{AllOfDimension}
 use Rattle.lt_model.proofs.Vectors.{plus_assoc, scale-plus, scale-scale}
 use Rattle.lt_model.proofs.Squares.{length-scale, length-plus}
+use Rattle.lt_model.proofs.Points.{get_dimension}
 use Rattle.lt_lattice.specs.Ranges.{IsWithin, IsBelow}
 use Rattle.lt_lattice.proofs.Products.{length-squares, squares_within}
 use Rattle.lt_triang.specs.Bounds.{AreWithin}
 use Rattle.lt_triang.proofs.Shifts.{within_plus, within_more, get_within}
-use Rattle.lt_triang.proofs.Steps.{get_dimension}
 use Rattle.lt_regulator.proofs.Multiples.{scale_within}
 
 -- what is summed once the first vertices are taken off, and how large it is

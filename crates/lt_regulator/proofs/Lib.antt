@@ -4,6 +4,6 @@ mod Numbered
 mod Tested
 mod Near
 mod Positive
-mod Collected
+pub mod Collected
 mod Listed
 pub mod Distinct

@@ -18,12 +18,6 @@ pub record IsListed (t : List (List (List ℤ))) (m facets : ℕ) (ns : List (Li
   pub below : HasRegulatorsBelow t m ns
   pub own : HasRegulatorsOf t m facets ns
 
-pub nothing_listed : (t : List (List (List ℤ))) → HasRegulatorsBelow t 0 []
-nothing_listed t = record { only = λ n c. Contains-none n c; all = λ m h. absurd (omega arith) }
-
-pub listed_start : (t : List (List (List ℤ))) (m : ℕ) (ns : List (List ℤ)) → HasRegulatorsBelow t m ns → IsListed t m 0 ns
-listed_start t m ns h = record { below = h; own = record { each = λ i p. absurd (omega arith) } }
-
 last_is : (ns : List (List ℤ)) (n : List ℤ) → Contains (ns ++ n ∷ []) n
 last_is [] n = (0, omega arith, refl)
 last_is (x ∷ ns) n = let r = last_is ns n in (suc r.0, omega (arith, r.1), r.2)

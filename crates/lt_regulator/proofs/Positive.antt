@@ -11,6 +11,7 @@ use Rattle.lt_model.specs.Simplices.{IsExpression}
 use Rattle.lt_model.specs.Triangulations.{IsDelaunay}
 use Rattle.lt_model.specs.Walls.{excess_normal}
 use Rattle.lt_model.proofs.Opposite.{zeros-dot}
+use Rattle.lt_model.proofs.Inequalities.{natural}
 use Rattle.lt_geometry.specs.Regulators.{IsRegulatorAt}
 use Rattle.lt_geometry.proofs.Regulators.{lies_above, length-at}
 use Rattle.lt_num.specs.Divisors.{DividesEach, IsGcdOf, MadePrimitive}
@@ -45,10 +46,6 @@ not_zero d q t s i old k m hi h e =
     let z : dot old q ≡ pos 0 = ap (λ (x : List ℤ). dot x q) e ∙ zeros-dot (length old) q in
     let p' : pos 0 <ℤ dot old q = subst (λ (x : List ℤ). pos 0 <ℤ dot x q) (sym h.value) p in
     omega (arith, ints, z, p')
-
-natural : (g : ℤ) → pos 0 <ℤ g → (m : ℕ) × (g ≡ pos m) × (0 < m)
-natural (pos m) h = (m, refl, omega (arith, ints))
-natural (negsuc m) h = absurd (omega (arith, ints))
 
 -- what `primitive` makes of the excess normal is the regulator
 pub record IsMade (d : ℕ) (t : List (List (List ℤ))) (s : List (List ℤ)) (i : ℕ) (n : List ℤ) : Type 0 where

@@ -8,7 +8,8 @@ use Rattle.lt_triang.specs.Across.{IsOuterVertex}
 use Rattle.lt_triang.specs.Kept.{dimension_of}
 
 -- the numbers of the excess of the outer vertex of the neighbour of s at facet i, by some expression
-pub record IsOuterExcess (d : ℕ) (t : List (List (List ℤ))) (s : List (List ℤ)) (i : ℕ) (numbers : List ℤ) : Type 0 where
+pub record IsOuterExcess (d : ℕ) (t : List (List (List ℤ))) (s : List (List ℤ)) (i : ℕ) (numbers : List ℤ) : Type
+    0 where
   pub vertex : List ℤ
   pub c : ℤ
   pub b : List ℤ

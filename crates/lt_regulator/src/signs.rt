@@ -65,7 +65,8 @@ pub fn signs_agree(d: usize, s: &[Point], w: &Point, e: &Expression, normal: &[i
     requires one_each { length e.now.coefficients.items ≡ suc d }
     requires below { AreBelow (2 ^ 59) (e.now.scale ∷ e.now.coefficients.items) }
     requires numbers { length normal.now ≡ numbers_of_form d }
-    ensures { result ≡ false → (factor : ℕ) → 0 < factor → excess_normal s.now w.now e.now.scale e.now.coefficients.items ≡ scale (pos factor) normal.now → ⊥ }
+    ensures { result ≡ false → (factor : ℕ) → 0 < factor → excess_normal s.now w.now e.now.scale
+        e.now.coefficients.items ≡ scale (pos factor) normal.now → ⊥ }
 {
     let mut k = 0;
     for i in 0..d {

@@ -17,8 +17,8 @@ pub record HasOne (d : ℕ) (vectors : List (List ℤ)) (y : List ℤ) : Type 0 
   pub parity : AreOfOneParity d vector y
   pub only : (x : List ℤ) → Contains vectors x → AreOfOneParity d x y → x ≡ vector
 
--- the list has one point of each parity but that of 0; each is the only shortest of its parity, and each other point that is the only
--- shortest of such a parity is the negative of a listed one
+-- the list has one point of each parity but that of 0; each is the only shortest of its parity, and each other point
+-- that is the only shortest of such a parity is the negative of a listed one
 pub record AreRelevant (d : ℕ) (q : List ℤ) (vectors : List (List ℤ)) : Type 0 where
   pub odd : (x : List ℤ) → Contains vectors x → IsOdd d x
   pub one : (y : List ℤ) → IsOdd d y → HasOne d vectors y

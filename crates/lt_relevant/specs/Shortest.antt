@@ -7,8 +7,9 @@ use Rattle.lt_model.specs.Order.{number_list_cmp}
 use Rattle.lt_model.specs.Vectors.{scale, zeros}
 use Rattle.lt_model.specs.Forms.{value}
 
--- least is the value of q at each listed point, no point but 0 has a smaller one, and each point with this value is listed or the
--- negative of a listed one; the points ascend, there is one at least, and the first coordinate of each that is not 0 is positive
+-- least is the value of q at each listed point, no point but 0 has a smaller one, and each point with this value is
+-- listed or the negative of a listed one; the points ascend, there is one at least, and the first coordinate of each
+-- that is not 0 is positive
 pub record IsShortest (d : ℕ) (q : List ℤ) (least : ℤ) (vectors : List (List ℤ)) : Type 0 where
   pub occupied : 0 < length vectors
   pub ascending : IsStrictlySortedBy number_list_cmp vectors

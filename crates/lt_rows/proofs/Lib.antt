@@ -1,4 +1,3 @@
-pub mod Dimensions
 pub mod PlaneNormals
 pub mod Candidates
 pub mod Parts

@@ -5,7 +5,7 @@ use Rattle.std.proofs.lemmas.Int.{ints, to_z-of_z}
 use mir.Val.{SFits, to_z, of_z}
 use mir.Syntax.{w128}
 use Rattle.std.proofs.lemmas.List.{drop_all, take_all, take_more, get_or_default}
-use Rattle.std.proofs.lemmas.List.Elements.{All-nil, All-push, recursion_from_All}
+use Rattle.std.proofs.lemmas.List.Elements.{All-push, recursion_from_All}
 use Rattle.std.specs.List.{All}
 use Rattle.lt_model.specs.Vectors.{dot, combine}
 use Rattle.lt_model.specs.Facets.{number_at}
@@ -101,9 +101,6 @@ cast_sum i s x y few small bx by = rw (cast_product x y bx by) (to_z-of_z w128 (
 pub record AreCombined (at : List ℤ) (fs : List (List ℤ)) (j : ℕ) (numbers : List ℤ) : Type 0 where
   pub so_far : numbers ≡ take j (combine at fs)
   pub within : All (IsWithin (21 * (2 ^ 62 * 4096))) numbers
-
-pub none_combined : (at : List ℤ) (fs : List (List ℤ)) → AreCombined at fs 0 []
-none_combined at fs = record { so_far = refl; within = All-nil (IsWithin (21 * (2 ^ 62 * 4096))) }
 
 pub combined_more : (at : List ℤ) (fs : List (List ℤ)) (j : ℕ) (numbers new : List ℤ) (x : ℤ) → AreCombined at fs j numbers → j < length (combine at fs) → x ≡ number_at j (combine at fs) → nat_abs x ≤ 21 * (2 ^ 62 * 4096) → new ≡ numbers ++ x ∷ [] → AreCombined at fs (j + 1) new
 combined_more at fs j numbers new x h l v b e = record {

@@ -1,4 +1,3 @@
-mod SortedNormals
 mod Restricted
 mod Filling
 mod RestrictedLists

@@ -1,21 +1,18 @@
 -- Lists divided by their greatest common divisor, unless all of their numbers are 0.
-use Rattle.std.proofs.Common.{◌≡◌, ℕ, zero, suc, ℤ, pos, negsuc, ◌*ℤ◌, ◌≤ℤ◌, ◌≤◌, ◌<◌, refl, ap, arith, sym, ◌∙◌, subst, List, [], ◌∷◌, length, take, nat_abs, inl, inr}
+use Rattle.std.proofs.Common.{◌≡◌, ℕ, zero, suc, ℤ, pos, negsuc, ◌≤ℤ◌, ◌≤◌, ◌<◌, refl, ap, arith, sym, ◌∙◌, subst, List, length, take, nat_abs, inl, inr}
 use Rattle.std.proofs.lemmas.Int.{ints}
 use Rattle.std.proofs.lemmas.List.{length-take-le}
 use Rattle.std.proofs.lemmas.List.Elements.{All-take}
 use Rattle.std.specs.List.{refill}
-use Rattle.lt_model.specs.Vectors.{scale, zeros}
 use Rattle.lt_model.specs.Cones.{AreBelow}
 use Rattle.lt_model.proofs.Squares.{length-scale}
+use Rattle.lt_model.proofs.Points.{scale-one}
+use Rattle.lt_model.proofs.Vectors.{map-is-scale}
 use Rattle.lt_num.specs.Divisors.{MadePrimitive}
-use Rattle.lt_geometry.proofs.WalkEnds.{scale-one}
 use Rattle.lt_solve.proofs.Solved.{written}
-use Rattle.lt_lp.proofs.Reduces.{primitive_from_gcd, below_scale, map-is-scale}
+use Rattle.lt_solve.proofs.Lowest.{zero_scale}
+use Rattle.lt_lp.proofs.Reduces.{primitive_from_gcd, below_scale}
 use Rattle.lt_section.specs.Lowered.{IsLowered}
-
-pub no_multiple : (xs : List ℤ) → scale (pos 0) xs ≡ zeros (length xs)
-no_multiple [] = refl
-no_multiple (x ∷ xs) = let e : pos 0 *ℤ x ≡ pos 0 = omega (arith, ints) in let f = no_multiple xs in cc
 
 pub lowered : (old new : List ℤ) (g : ℤ) → MadePrimitive old g new → IsLowered old new
 lowered old new (pos zero) m =
@@ -24,7 +21,7 @@ lowered old new (pos zero) m =
       factor = 1;
       some = omega arith;
       times = sym e ∙ sym (scale-one new);
-      lowest = inr (e ∙ m.times ∙ map-is-scale (pos 0) new ∙ no_multiple new);
+      lowest = inr (e ∙ m.times ∙ map-is-scale (pos 0) new ∙ zero_scale new);
     }
 lowered old new (pos (suc n)) m = record {
   factor = suc n;

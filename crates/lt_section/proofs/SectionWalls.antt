@@ -15,9 +15,9 @@ use Rattle.lt_model.proofs.Sets.{number_list_cmp_total, never_below_itself}
 use Rattle.lt_model.proofs.Dependent.{zero_or_not, mul-not_zero}
 use Rattle.lt_model.proofs.Vectors.{dot-scale, plus_assoc}
 use Rattle.lt_model.proofs.Walk.{plus-nil}
-use Rattle.lt_geometry.proofs.Motions.{plus-zeros}
+use Rattle.lt_model.proofs.Points.{plus-zeros, scale-one}
 use Rattle.lt_geometry.proofs.Regulators.{from_multiple}
-use Rattle.lt_geometry.proofs.WalkEnds.{scale-one}
+use Rattle.lt_solve.proofs.Lowest.{zero_scale}
 use Rattle.lt_lp.specs.Alternatives.{HasWallForm}
 use Rattle.lt_laws.specs.Edges.{IsEdge}
 use Rattle.lt_laws.specs.Sections.{IsSectionWall, IsSection, IsLive, IsDead}
@@ -44,7 +44,7 @@ combine-none : (n k : ℕ) (fs : List (List ℤ)) → All (λ f. length f ≡ n)
 combine-none n zero fs all x l = plus-nil x
 combine-none n (suc k) [] all x l = plus-nil x
 combine-none n (suc k) (f ∷ fs) all x l =
-    let z : scale (pos 0) f ≡ zeros n = no_multiple f ∙ ap zeros (All-head (λ (g : List ℤ). length g ≡ n) f fs all) in
+    let z : scale (pos 0) f ≡ zeros n = zero_scale f ∙ ap zeros (All-head (λ (g : List ℤ). length g ≡ n) f fs all) in
     sym (plus_assoc x (scale (pos 0) f) (combine (zeros k) fs)) ∙ ap (λ (y : List ℤ). plus (plus x y) (combine (zeros k) fs)) z ∙ ap (λ (y : List ℤ). plus y (combine (zeros k) fs)) (plus-zeros n x l)
     ∙ combine-none n k fs (All-tail (λ (g : List ℤ). length g ≡ n) f fs all) x l
 

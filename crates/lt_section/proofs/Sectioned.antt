@@ -10,7 +10,7 @@ use Rattle.lt_model.specs.Limits.{weight}
 use Rattle.lt_model.specs.Triangulations.{IsDelaunay}
 use Rattle.lt_model.proofs.Excess.{dot-nil}
 use Rattle.lt_model.proofs.Squares.{length-scale}
-use Rattle.lt_geometry.proofs.Choices.{contains_map}
+use Rattle.lt_model.proofs.Sets.{Contains-map}
 use Rattle.lt_geometry.proofs.PrimitiveParts.{primitive_part}
 use Rattle.lt_geometry.proofs.Regulators.{positive_at, has_regulator, from_multiple}
 use Rattle.lt_tableau.specs.Errors.{AreOfDimension}
@@ -74,7 +74,7 @@ module _ (d : ℕ) (t : List (List (List ℤ))) (fs ns : List (List ℤ)) (h : A
       held : (r : List ℤ) → IsSectionNormal d t fs r → Contains fronts r
       held r n =
           let c = (h.members (filled (numbers_of_form d) r)).1 (r, n, refl) in
-          subst (Contains fronts) (own_front (filled (numbers_of_form d) r) r n refl) (contains_map (take (length fs)) ns (filled (numbers_of_form d) r) c)
+          subst (Contains fronts) (own_front (filled (numbers_of_form d) r) r n refl) (Contains-map (take (length fs)) ns (filled (numbers_of_form d) r) c)
 
   pub weight_same : filled_weight d fronts ≡ weight d ns
   weight_same = ap (weight d) (filled_fronts (length fs) (numbers_of_form d) ns filled_up)

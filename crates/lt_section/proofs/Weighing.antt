@@ -1,11 +1,10 @@
 -- What the test of the weight shows, and what the rows of a section are made from.
-use Rattle.std.proofs.Common.{◌≡◌, ℕ, ℤ, pos, ◌≤ℤ◌, ◌<◌, ◌≤◌, ◌^◌, arith, ap, sym, ◌∙◌, subst, true, false, T, List, [], length, get_or, map, take}
+use Rattle.std.proofs.Common.{◌≡◌, ℕ, ℤ, pos, ◌<◌, ◌≤◌, ◌^◌, arith, ap, sym, ◌∙◌, subst, true, false, List, [], length, get_or, map, take}
 use Rattle.std.proofs.lemmas.Int.{ints, to_z-of_z}
 use Rattle.std.proofs.lemmas.List.{length-map}
 use Rattle.std.proofs.Math.Nat.{min-le_left}
-use Rattle.std.specs.Int.Signed.{le_z_yes}
 use Rattle.std.specs.List.{All}
-use mir.Val.{SFits, to_z, of_z}
+use mir.Val.{to_z, of_z}
 use mir.Syntax.{w128}
 use lib.Signed.{le_z}
 use Rattle.lt_model.specs.Forms.{numbers_of_form}
@@ -16,6 +15,7 @@ use Rattle.lt_tableau.specs.Errors.{AreOfDimension}
 use Rattle.lt_lp.specs.Positive.{IsPositiveAt}
 use Rattle.lt_locate.specs.Edges.{AreEdges}
 use Rattle.lt_locate.proofs.Bad.{edge_lengths}
+use Rattle.lt_locate.proofs.Weighed.{heavy, fits}
 use Rattle.lt_section.specs.declared.answers.SectionRow.{SectionRow}
 use Rattle.lt_section.specs.declared.answers.SectionError.TheVariants.{Heavy}
 use Rattle.lt_section.specs.Filled.{AreFilledNormals}
@@ -24,12 +24,6 @@ use Rattle.lt_section.specs.Rows.{normals_of, IsRightVerdict, AreRightRows}
 use Rattle.lt_section.specs.Decided.{IsInput, IsVerdictOn, AreVerdictsOn}
 use Rattle.lt_section.proofs.Sectioned.{are_section_normals, weight_same, lengths, positive_there, some_normal}
 use Rattle.lt_section.proofs.SectionWalls.{in_section, right_verdict}
-
-fits : (w : ℕ) → w ≤ 2 ^ 120 → SFits w128 (pos w)
-fits w h = omega (arith, ints, h)
-
-heavy : (w : ℕ) → le_z (pos (2 ^ 112)) (pos w) ≡ true → weight_limit ≤ w
-heavy w e = let l : pos (2 ^ 112) ≤ℤ pos w = le_z_yes (subst T (sym e) tt) in omega (arith, ints, l)
 
 light : (w : ℕ) → le_z (pos (2 ^ 112)) (pos w) ≡ false → w < weight_limit
 light w e = omega (arith, ints, e)

@@ -14,8 +14,8 @@ use Rattle.lt_section.specs.declared.answers.SectionVerdict.{SectionVerdict}
 use Rattle.lt_section.specs.declared.answers.SectionVerdict.TheVariants.{Live, Dead, Combination}
 use Rattle.lt_section.specs.Lowered.{IsLowered}
 
--- what the verdicts are made from: filled normals that some form makes positive and whose weight is below the limit, forms with
--- small numbers, and points; all of one dimension, and no more forms than a form has numbers
+-- what the verdicts are made from: filled normals that some form makes positive and whose weight is below the limit,
+-- forms with small numbers, and points; all of one dimension, and no more forms than a form has numbers
 pub record IsInput (fs ns xs : List (List ℤ)) : Type 0 where
   pub normals : All (λ x. length x ≡ length (get_or ns 0 [])) ns
   pub positive : (form : List ℤ) × IsPositiveAt form ns

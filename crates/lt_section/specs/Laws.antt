@@ -28,9 +28,10 @@ IsLiveFacet d t fs r = IsSectionFacet d t fs r × IsLive d t fs r
 abbrev pub IsDeadFacet : ℕ → List (List (List ℤ)) → List (List ℤ) → List ℤ → Type 0
 IsDeadFacet d t fs r = IsSectionFacet d t fs r × ((x : List ℤ) × IsDeadBy d t fs r x)
 
--- the verdict says live exactly where the normal is a live facet, dead exactly where it is a dead one, and neither exactly
--- where it is no facet; and a facet is live or dead
-pub record Tells (d : ℕ) (t : List (List (List ℤ))) (fs : List (List ℤ)) (r : List ℤ) (v : SectionVerdict) : Type 0 where
+-- the verdict says live exactly where the normal is a live facet, dead exactly where it is a dead one, and neither
+-- exactly where it is no facet; and a facet is live or dead
+pub record Tells (d : ℕ) (t : List (List (List ℤ))) (fs : List (List ℤ)) (r : List ℤ) (v : SectionVerdict) : Type
+    0 where
   pub live : IsTrue (says_live v) ↔ IsLiveFacet d t fs r
   pub dead : IsTrue (says_dead v) ↔ IsDeadFacet d t fs r
   pub none : IsTrue (says_none v) ↔ (IsSectionFacet d t fs r → ⊥)

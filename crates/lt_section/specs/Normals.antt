@@ -27,5 +27,6 @@ filled_weight d rs = weight d (map (filled (numbers_of_form d)) rs)
 -- Heavy names the weight of the restricted normals, at the limit or above it; Memory says nothing
 abbrev pub IsHeavySection : ℕ → List (List (List ℤ)) → List (List ℤ) → SectionError → Type 0
 IsHeavySection d t fs (Heavy w) =
-    (rs : List (List ℤ)) × AreSectionNormals d t fs rs × (w ≡ pos (filled_weight d rs)) × (weight_limit ≤ filled_weight d rs)
+    (rs : List (List ℤ)) × AreSectionNormals d t fs rs × (w ≡ pos (filled_weight d rs))
+    × (weight_limit ≤ filled_weight d rs)
 IsHeavySection d t fs Memory = Unit

@@ -33,14 +33,15 @@ pub record IsDeadBy (d : ℕ) (t : List (List (List ℤ))) (fs : List (List ℤ)
 abbrev pub IsZeroEdge : ℕ → List (List (List ℤ)) → List ℤ → List ℤ → Type 0
 IsZeroEdge d t q x = IsEdge d t x × (value q x ≡ pos 0)
 
--- Live names a wall of the k-th normal and the form at it, and the forms at all walls are positive definite; Dead names a
--- wall, the form at it and the first edge at which this form is 0, by which the facet is dead; Combination says that the
--- normal is no facet
+-- Live names a wall of the k-th normal and the form at it, and the forms at all walls are positive definite; Dead names
+-- a wall, the form at it and the first edge at which this form is 0, by which the facet is dead; Combination says that
+-- the normal is no facet
 abbrev pub IsRightVerdict : ℕ → List (List (List ℤ)) → List (List ℤ) → List (List ℤ) → ℕ → SectionVerdict → Type 0
 IsRightVerdict d t fs rs k (Live at form) =
     IsWallAt d t fs (get_or rs k []) at.items form × IsLive d t fs (get_or rs k [])
 IsRightVerdict d t fs rs k (Dead at form x) =
-    IsWallAt d t fs (get_or rs k []) at.items form × IsFirst (IsZeroEdge d t form) x × IsDeadBy d t fs (get_or rs k []) x
+    IsWallAt d t fs (get_or rs k []) at.items form × IsFirst (IsZeroEdge d t form) x
+    × IsDeadBy d t fs (get_or rs k []) x
 IsRightVerdict d t fs rs k (Combination factor terms) =
     IsRightCombination d rs k factor terms.items × (IsSectionFacet d t fs (get_or rs k []) → ⊥)
 

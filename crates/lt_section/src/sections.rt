@@ -35,7 +35,8 @@ pub fn section(alloc: Global, t: &Triangulation, forms: &[Form]) -> Result<Secti
     requires within { All (All (IsWithin 4096)) forms.now }
     requires delaunay { IsDelaunay (dimension_of t.now) (get_or forms.now 0 []) t.now }
     requires light { HasLightRegulators (dimension_of t.now) t.now }
-    ensures normals { IfOk result (λ s. AreSectionNormals (dimension_of t.now) t.now forms.now (normals_of s.rows.items)) }
+    ensures normals { IfOk result (λ s. AreSectionNormals (dimension_of t.now) t.now forms.now
+        (normals_of s.rows.items)) }
     ensures verdicts { IfOk result (λ s. AreRightRows (dimension_of t.now) t.now forms.now s.rows.items) }
     ensures light { IfOk result (λ s. filled_weight (dimension_of t.now) (normals_of s.rows.items) < weight_limit) }
     ensures heavy { IfErr result (λ e. IsHeavySection (dimension_of t.now) t.now forms.now e) }

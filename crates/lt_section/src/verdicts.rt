@@ -58,7 +58,8 @@ fn verdict(
 ) -> Result<SectionVerdict, Memory>
     requires place { k < length normals.now }
     requires input { IsInput forms.now normals.now points.now }
-    ensures { IfOk result (λ v. (d : ℕ) → AreOfDimension d normals.now → IsVerdictOn d forms.now normals.now points.now k v) }
+    ensures { IfOk result (λ v. (d : ℕ) → AreOfDimension d normals.now → IsVerdictOn d forms.now normals.now points.now
+        k v) }
 {
     match decide(alloc, normals, k) {
         Ok(Verdict::Wall(wall)) => Ok(facet(&wall, forms, points)),

@@ -4,5 +4,4 @@ pub mod Lists
 pub mod Loops
 pub mod HalfTexts
 pub mod Spelt
-pub mod Squares
 pub mod AsSpelt

@@ -5,13 +5,14 @@ use Rattle.lt_model.proofs.Integers.{mul_neg_z}
 use Rattle.lt_model.proofs.Vectors.{dot_comm, dot-plus, dot-scale}
 use Rattle.lt_model.proofs.Squares.{length-scale}
 use Rattle.lt_model.proofs.Excess.{same_from_dots}
-use Rattle.lt_model.proofs.Walk.{length-combine, IsWeighted, number_at-scale, mul-positive}
-use Rattle.lt_model.proofs.Inequalities.{mul_nonneg_z}
+use Rattle.lt_model.proofs.Walk.{length-combine, number_at-scale}
+use Rattle.lt_model.proofs.Inequalities.{mul_nonneg_z, mul_pos_z}
 use Rattle.lt_model.proofs.Opposite.{length-zeros, zeros-dot}
 use Rattle.lt_model.proofs.Expressions.{one_expression}
 use Rattle.lt_model.specs.Facets.{number_at, IsBeyond}
 use Rattle.lt_model.specs.Vectors.{scale, dot, total, combine, zeros}
 use Rattle.lt_model.specs.Simplices.{IsClass, IsExpression}
+use Rattle.lt_model.proofs.Points.{weighted}
 use Rattle.lt_solve.specs.Systems.{IsSolution, IsColumnDependency}
 use Rattle.lt_triang.specs.Flat.{leading}
 use Rattle.lt_triang.proofs.Signs.{leading_primitive}
@@ -40,12 +41,6 @@ expression_of d (v ∷ vs) w den nums k lw h =
         end : (a x : ℤ) → a *ℤ pos 0 +ℤ x ≡ x
         end a x = omega (arith, ints)
 
-weighted : (s : List (List ℤ)) (w : List ℤ) (c : ℤ) (b : List ℤ) → IsExpression s w c b → IsWeighted s (pos 1) w c b
-weighted s w c b e = record { positive = e.positive; one_each = e.one_each; point = e.point; sum = e.sum ∙ (one c) }
-  where
-    one : (c : ℤ) → c ≡ c *ℤ pos 1
-    one c = omega (arith, ints)
-
 pub negative_from : (d : ℕ) (s : List (List ℤ)) (i : ℕ) (w : List ℤ) (c : ℤ) (b : List ℤ) → IsClass d s → IsExpression s w c b → IsBeyond s i w → number_at i b <ℤ pos 0
 negative_from d s i w c b k e n =
     let same : scale n.scale b ≡ scale c n.coefficients = one_expression d s (pos 1) w b n.coefficients c n.scale k.simplex (weighted s w c b e) (weighted s w n.scale n.coefficients n.expression) in
@@ -55,7 +50,7 @@ negative_from d s i w c b k e n =
     negative : (c e a b : ℤ) → pos 0 <ℤ c → pos 0 <ℤ e → b <ℤ pos 0 → c *ℤ a ≡ e *ℤ b → a <ℤ pos 0
     negative c e a b pc pe nb eq =
         let n : pos 0 <ℤ neg_ℤ b = omega (arith, ints) in
-        let z : pos 0 <ℤ (e *ℤ neg_ℤ b) = mul-positive e (neg_ℤ b) pe n in
+        let z : pos 0 <ℤ (e *ℤ neg_ℤ b) = mul_pos_z e (neg_ℤ b) pe n in
         by_lt_z a (pos 0) (λ l. l) (λ l.
         let q : pos 0 ≤ℤ (c *ℤ a) = mul_nonneg_z c a (omega (arith, ints)) l in
         absurd (omega (arith, ints, z, q, eq, mul_neg_z e b)))

@@ -9,9 +9,9 @@ use Rattle.lt_model.specs.Vectors.{plus}
 use Rattle.lt_model.specs.Facets.{without}
 use Rattle.lt_model.specs.Simplices.{AllOfDimension, translate}
 use Rattle.lt_model.proofs.Translates.{without-translate}
+use Rattle.lt_model.proofs.Dependent.{all_without}
 use Rattle.lt_triang.specs.Across.{IsFacing}
 use Rattle.lt_triang.specs.Codes.{coordinate_digits, point_code, point_digits, code_differences, facet_code, bucket_of}
-use Rattle.lt_triang.proofs.Shifts.{all_without}
 
 digits-plus : (h k : ℤ) (x y : List ℤ) → length x ≡ length y → coordinate_digits (h +ℤ k) (plus x y) ≡ coordinate_digits h x +ℤ coordinate_digits k y
 digits-plus h k [] [] l = refl

@@ -15,7 +15,7 @@ use Rattle.lt_solve.specs.Systems.{chunks}
 use Rattle.lt_triang.specs.Flat.{columns_of}
 use Rattle.lt_triang.proofs.Gaps.{minus-zeros}
 
-drop_dimension : (d i : ℕ) (ps : List (List ℤ)) → AllOfDimension d ps → AllOfDimension d (drop i ps)
+pub drop_dimension : (d i : ℕ) (ps : List (List ℤ)) → AllOfDimension d ps → AllOfDimension d (drop i ps)
 drop_dimension d zero ps all = all
 drop_dimension d (suc i) [] all = tt
 drop_dimension d (suc i) (p ∷ ps) all = drop_dimension d i ps all.1
@@ -50,7 +50,7 @@ pub All-flat : (P : ℤ → Type 0) (u : List (List ℤ)) → AllByRecursion (Al
 All-flat P [] h = All-nil P
 All-flat P (r ∷ u) h = All-append P r (flat u) h.0 (All-flat P u h.1)
 
-chunks_are : (n d : ℕ) (u : List ℤ) → chunks n d u ≡ first_rows n d u
+pub chunks_are : (n d : ℕ) (u : List ℤ) → chunks n d u ≡ first_rows n d u
 chunks_are zero d u = refl
 chunks_are (suc n) d u = ap (λ l. take d u ∷ l) (chunks_are n d (drop d u))
 

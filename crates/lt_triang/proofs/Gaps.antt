@@ -6,7 +6,7 @@ use Rattle.lt_model.proofs.Squares.{length-scale, length-plus}
 use Rattle.std.specs.Prelude.{nat_le}
 use Rattle.std.specs.List.{All, AllByRecursion, Contains}
 use Rattle.std.proofs.lemmas.List.Elements.{Contains-get_or, All-contains}
-use Rattle.lt_model.proofs.Sets.{Contains-head, Contains-tail}
+use Rattle.lt_model.proofs.Sets.{Contains-head, Contains-tail, Contains-map}
 use Rattle.lt_model.specs.Limits.{greatest, gap, class_span, span, span_limit}
 use Rattle.lt_model.specs.Vectors.{minus, scale, zeros}
 use Rattle.lt_model.specs.Simplices.{AllOfDimension, IsClass}
@@ -37,15 +37,8 @@ le_greatest [] n (k, p, e) = absurd (omega arith)
 le_greatest (x ∷ xs) n (zero, p, e) = omega (arith, e)
 le_greatest (x ∷ xs) n (suc k, p, e) = omega (arith, le_greatest xs n (k, omega arith, e))
 
-pub contains_map : {X : Type 0} (f : X → ℕ) (xs : List X) (x : X) → Contains xs x → Contains (map f xs) (f x)
-contains_map f [] x (k, p, e) = absurd (omega arith)
-contains_map f (y ∷ xs) x (zero, p, e) = (0, omega arith, ap f e)
-contains_map f (y ∷ xs) x (suc k, p, e) =
-    let r = contains_map f xs x (k, omega arith, e) in
-    Contains-tail (f y) (map f xs) (f x) r
-
 gap_within : (m : ℕ) (z : List ℤ) → greatest (map nat_abs z) ≤ m → All (IsWithin m) z
-gap_within m z le k e p = omega (arith, le_greatest (map nat_abs z) (nat_abs (get_or z k e)) (contains_map nat_abs z (get_or z k e) (Contains-get_or z k e p)))
+gap_within m z le k e p = omega (arith, le_greatest (map nat_abs z) (nat_abs (get_or z k e)) (Contains-map nat_abs z (get_or z k e) (Contains-get_or z k e p)))
 
 pub minus-zeros : (d : ℕ) (v : List ℤ) → length v ≡ d → minus v (zeros d) ≡ v
 minus-zeros zero [] l = refl
@@ -69,10 +62,10 @@ within_from_near m d s k near =
 pub near_from_class_span : (m : ℕ) (s : List (List ℤ)) → class_span s ≤ m → AreNear m s
 near_from_class_span m s le x y cx cy =
     gap_within m (minus x y)
-    (omega (arith, le, le_greatest (map (λ v. greatest (map (gap v) s)) s) (greatest (map (gap x) s)) (contains_map (λ v. greatest (map (gap v) s)) s x cx), le_greatest (map (gap x) s) (gap x y) (contains_map (gap x) s y cy)))
+    (omega (arith, le, le_greatest (map (λ v. greatest (map (gap v) s)) s) (greatest (map (gap x) s)) (Contains-map (λ v. greatest (map (gap v) s)) s x cx), le_greatest (map (gap x) s) (gap x y) (Contains-map (gap x) s y cy)))
 
 pub near_from_span : (m : ℕ) (t : List (List (List ℤ))) (s : List (List ℤ)) → span t ≤ m → Contains t s → AreNear m s
-near_from_span m t s le c = near_from_class_span m s (omega (arith, le, le_greatest (map class_span t) (class_span s) (contains_map class_span t s c)))
+near_from_span m t s le c = near_from_class_span m s (omega (arith, le, le_greatest (map class_span t) (class_span s) (Contains-map class_span t s c)))
 
 pub greatest_at_most : {X : Type 0} (f : X → ℕ) (xs : List X) (m : ℕ) → ((x : X) → Contains xs x → f x ≤ m) → greatest (map f xs) ≤ m
 greatest_at_most f [] m h = omega arith

@@ -1,5 +1,5 @@
 -- Independent points: in order they ascend strictly, and their differences from the first tell of them.
-use Rattle.std.proofs.Common.{◌≡◌, ℕ, zero, suc, ℤ, pos, negsuc, neg_ℤ, ◌+ℤ◌, ◌*ℤ◌, ◌<◌, ◌+◌, refl, ap, arith, sym, ◌∙◌, subst, false, List, [], ◌∷◌, length, map, get_or, inl, inr, ◌⊎◌}
+use Rattle.std.proofs.Common.{◌≡◌, ℕ, zero, suc, ℤ, pos, negsuc, ◌<◌, ◌+◌, refl, ap, arith, sym, ◌∙◌, subst, false, List, [], ◌∷◌, length, map, get_or, inl, inr, ◌⊎◌}
 use Rattle.std.specs.Ordering as orders
 use Rattle.std.proofs.lemmas.Int.{ints}
 use Rattle.std.specs.declared.cmp.Ordering.{Ordering}
@@ -8,18 +8,18 @@ use Rattle.std.specs.Ordering.{is_lt}
 use Rattle.std.specs.List.{AllByRecursion, Contains}
 use Rattle.std.specs.List.Sorted.{IsSorted, IsStrictlySortedBy}
 use Rattle.std.proofs.lemmas.List.Sorted.{sorted_far, ranks_by}
-use Rattle.lt_model.proofs.Integers.{spread, triple_is}
 use Rattle.lt_model.proofs.Sets.{Contains-head, Contains-tail, number_list_cmp_total}
 use Rattle.lt_model.proofs.Vectors.{dot_comm, dot-plus, dot-scale}
 use Rattle.lt_model.proofs.Squares.{length-scale}
-use Rattle.lt_model.proofs.Excess.{dot-combine, same_from_dots, scale-dot, length-translate}
+use Rattle.lt_model.proofs.Excess.{dot-combine, same_from_dots, scale-dot}
 use Rattle.lt_model.proofs.Walk.{length-combine}
-use Rattle.lt_model.proofs.Moved.{translate_all, dot-moved}
 use Rattle.lt_model.proofs.Opposite.{length-zeros, zeros-dot, length-unit, unit-dot}
 use Rattle.lt_model.specs.Order.{number_list_cmp}
 use Rattle.lt_model.specs.Facets.{number_at}
-use Rattle.lt_model.specs.Vectors.{scale, dot, total, combine, zeros, unit, AreLinearlyIndependent}
-use Rattle.lt_model.specs.Simplices.{AllOfDimension, AreIndependent, translate}
+use Rattle.lt_model.specs.Vectors.{scale, dot, total, combine, zeros, unit}
+use Rattle.lt_model.specs.Simplices.{AllOfDimension, AreIndependent}
+use Rattle.lt_model.proofs.Expressions.{total-scale}
+use Rattle.lt_model.proofs.Points.{total-unit}
 use Rattle.lt_triang.proofs.Tied.{equal_points}
 
 -- ---- independent points that don't descend ascend
@@ -28,19 +28,6 @@ number_at-get : (k : ℕ) (f : List ℤ → ℤ) (vs : List (List ℤ)) (x : Lis
 number_at-get k f [] x p e = absurd (omega arith)
 number_at-get zero f (v ∷ vs) x p e = ap f e
 number_at-get (suc k) f (v ∷ vs) x p e = number_at-get k f vs x (omega arith) e
-
-total-unit : (n k : ℕ) → k < n → total (unit n k) ≡ pos 1
-total-unit zero k p = absurd (omega arith)
-total-unit (suc n) zero p = omega (arith, ints, total-zeros n)
-  where
-    total-zeros : (n : ℕ) → total (zeros n) ≡ pos 0
-    total-zeros zero = refl
-    total-zeros (suc n) = omega (arith, ints, total-zeros n)
-total-unit (suc n) (suc k) p = omega (arith, ints, total-unit n k (omega arith))
-
-pub total-scaled : (k : ℤ) (b : List ℤ) → total (scale k b) ≡ k *ℤ total b
-total-scaled k [] = omega (arith, ints)
-total-scaled k (a ∷ b) = rw (total-scaled k b) (simp spread (omega (arith, ints)))
 
 independent_tail : (d : ℕ) (v : List ℤ) (vs : List (List ℤ)) → AllOfDimension d (v ∷ vs) → AreIndependent d (v ∷ vs) → AreIndependent d vs
 independent_tail d v vs all free b lb sum none =
@@ -56,7 +43,7 @@ twice : (d : ℕ) (v : List ℤ) (vs : List (List ℤ)) → AllOfDimension d (v 
 twice d v vs all free (k, p, e) =
     let b : List ℤ = pos 1 ∷ scale (negsuc 0) (unit (length vs) k) in
     let lb : length b ≡ length (v ∷ vs) = ap suc (length-scale (negsuc 0) (unit (length vs) k) ∙ length-unit (length vs) k) in
-    let sb : total b ≡ pos 0 = rw (total-scaled (negsuc 0) (unit (length vs) k), total-unit (length vs) k p) refl in
+    let sb : total b ≡ pos 0 = rw (total-scale (negsuc 0) (unit (length vs) k), total-unit (length vs) k p) refl in
     let nb : combine b (v ∷ vs) ≡ zeros d = same_from_dots (combine b (v ∷ vs)) (zeros d) (length-combine d b (v ∷ vs) all lb (omega arith) ∙ sym (length-zeros d)) at in
     let z : b ≡ zeros (suc (length vs)) = free b lb sb nb in
     cc
@@ -75,7 +62,7 @@ less_or_equal o Less e h = cc
 less_or_equal o Equal e h = inr e
 less_or_equal o Greater e h = inl e
 
-ascending_rest : (v : List ℤ) (vs : List (List ℤ)) → IsSorted number_list_cmp (v ∷ vs) → IsSorted number_list_cmp vs
+pub ascending_rest : (v : List ℤ) (vs : List (List ℤ)) → IsSorted number_list_cmp (v ∷ vs) → IsSorted number_list_cmp vs
 ascending_rest v vs h k d low p =
     let e : suc k + 1 ≡ suc (k + 1) = omega arith in
     let f : is_lt (number_list_cmp (get_or (v ∷ vs) (suc k + 1) d) (get_or (v ∷ vs) (suc k) d)) ≡ false = h (suc k) d (omega arith) (omega arith) in
@@ -105,40 +92,3 @@ strictly_from_sorted d (v ∷ vs) all free up =
         ]
 
 -- ---- columns and points
-
-pub opposite_twice : (p : List ℤ) → scale (negsuc 0) (scale (negsuc 0) p) ≡ p
-opposite_twice [] = refl
-opposite_twice (a ∷ p) = rw (opposite_twice p, same a) refl
-  where
-    same : (a : ℤ) → negsuc 0 *ℤ (negsuc 0 *ℤ a) ≡ a
-    same a = omega (arith, ints)
-
--- the differences of the points from the first are independent, so the points are
-pub independent_from_columns : (d : ℕ) (v : List ℤ) (vs : List (List ℤ)) → 0 < length vs → length vs ≡ d → AllOfDimension d (v ∷ vs) → AreLinearlyIndependent (translate (scale (negsuc 0) v) vs) → AreIndependent d (v ∷ vs)
-independent_from_columns d v vs some count all free [] lb sum none = absurd (omega arith)
-independent_from_columns d v vs some count all free (a ∷ b) lb sum none =
-    let q : List ℤ = scale (negsuc 0) v in
-    let lq : length q ≡ d = length-scale (negsuc 0) v ∙ all.0 in
-    let l : length b ≡ length vs = omega arith in
-    let lt : length b ≡ length (translate q vs) = l ∙ sym (length-translate q vs) in
-    let c : combine b (translate q vs) ≡ zeros d = same_from_dots (combine b (translate q vs)) (zeros d) (length-combine d b (translate q vs) (translate_all d q vs lq all.1) lt (omega (arith, length-translate q vs)) ∙ sym (length-zeros d)) (λ u. at u l) in
-    let z : b ≡ zeros (length vs) = free b lt (c ∙ ap zeros (sym (length-translate q vs ∙ count))) ∙ ap zeros (length-translate q vs) in
-    let s : total b ≡ pos 0 = ap total z ∙ total-none (length vs) in
-    let h : a ≡ pos 0 = omega (arith, ints, s) in
-    cc
-  where
-    total-none : (n : ℕ) → total (zeros n) ≡ pos 0
-    total-none zero = refl
-    total-none (suc n) = omega (arith, ints, total-none n)
-
-    at : (u : List ℤ) → length b ≡ length vs → dot u (combine b (translate (scale (negsuc 0) v) vs)) ≡ dot u (zeros d)
-    at u l =
-        let e : a *ℤ dot u v +ℤ dot u (combine b vs) ≡ dot u (zeros d) = sym (dot-plus u (scale a v) (combine b vs) ∙ (rw (dot-scale u a v) refl)) ∙ ap (dot u) none in
-        let k : total b ≡ neg_ℤ a = omega (arith, ints) in
-        dot-moved u (scale (negsuc 0) v) b vs l ∙ (rw (dot-scale u (negsuc 0) v, k) (done a (dot u v) (dot u (combine b vs)) (dot u (zeros d)) e))
-      where
-        done : (a x y z : ℤ) → a *ℤ x +ℤ y ≡ z → y +ℤ neg_ℤ a *ℤ (negsuc 0 *ℤ x) ≡ z
-        done a x y z e = omega (arith, ints, triple_is, e, opposite a x)
-          where
-            opposite : (a x : ℤ) → neg_ℤ a *ℤ (negsuc 0 *ℤ x) ≡ a *ℤ x
-            opposite a x = simp spread (omega (arith, ints, triple_is))

@@ -1,5 +1,5 @@
 -- The index of facets: how it grows, and why the first facet in a bucket is the first of all.
-use Rattle.std.proofs.Common.{◌*◌, ◌≡◌, ℕ, suc, ℤ, ◌<◌, ◌≤◌, refl, ap, arith, sym, ◌∙◌, subst, List, [], ◌∷◌, ◌++◌, inl, inr, ◌⊎◌, length, get_or, set, Vec, Option, None, Some}
+use Rattle.std.proofs.Common.{◌≡◌, ℕ, suc, ℤ, ◌<◌, refl, ap, arith, sym, ◌∙◌, subst, List, [], ◌∷◌, ◌++◌, inl, inr, ◌⊎◌, length, get_or, set, Vec, Option, None, Some}
 use Rattle.std.specs.List.{Contains}
 use Rattle.std.proofs.lemmas.Bool.{cases_eq, cases_lt, cases_order}
 use Rattle.std.proofs.lemmas.List.{get_or_append_left, get_or_push, length_push, get_or-set_same, get_or-set_other, length-set, length-map, map-set, get_or-map, get_or_default}
@@ -9,7 +9,7 @@ use Rattle.std.specs.Option.{MatchOption, IfSome}
 use Rattle.lt_triang.specs.declared.neighbours.Across.{Across}
 use Rattle.lt_triang.specs.Across.{IsFacing, IsNotFacing, IsOpen, IsFirstAcross}
 use Rattle.lt_triang.specs.Codes.{bucket_of}
-use Rattle.lt_triang.specs.Indexed.{buckets_of, IsEarlier, entry_at, size_at, IsIndexBelow, IsIndex, ArePlaces, AreNotFacing, IsFirstIn, HasOuter, IsKept}
+use Rattle.lt_triang.specs.Indexed.{buckets_of, IsEarlier, entry_at, IsIndexBelow, IsIndex, ArePlaces, AreNotFacing, IsFirstIn, HasOuter, IsKept}
 use Rattle.lt_triang.specs.Kept.{AreClasses}
 use Rattle.lt_triang.proofs.Coded.{same_bucket}
 
@@ -37,24 +37,6 @@ not_itself : (a : Facet) → IsEarlier a a → ⊥
 not_itself a h = not_both a a h h
 
 -- ---- how the index grows
-
-pub index_begins : (d : ℕ) (t : List (List (List ℤ))) (bs : List (List Facet)) → length bs ≡ 4 * length t → ((b : ℕ) → get_or bs b [] ≡ []) → IsIndexBelow d t 0 0 bs
-index_begins d t bs l none = record {
-  count = l;
-  each = λ n j p e. none_before n j e;
-  before = λ b q h. absurd (empty b q h);
-  ascending = λ b p q lt h. absurd (empty b q h);
-  places = λ b q h. absurd (empty b q h);
-}
-  where
-    none_before : {X : Type 0} (n j : ℕ) → IsEarlier (n, j) (0, 0) → X
-    none_before n j (inl h) = absurd (omega (arith, h))
-    none_before n j (inr (e, h)) = absurd (omega (arith, h))
-
-    empty : (b q : ℕ) → q < size_at bs b → ⊥
-    empty b q h =
-        let z : size_at bs b ≡ 0 = ap length (none b) in
-        absurd (omega (arith, h, z))
 
 -- a bucket with a facet more, or the same
 after : (bs : List (List Facet)) (at : ℕ) (x : Facet) → at < length bs → (b : ℕ) →
@@ -130,23 +112,6 @@ index_grows d t m k at bs bs' lk la ea e h =
         subst (λ (l : List Facet). Contains l (m, k)) (sym (get_or-set_same bs at (get_or bs at [] ++ (m, k) ∷ []) [] la)) (Contains-push (get_or bs at []) (m, k)) in
         let there : Contains (get_or (set bs at (get_or bs at [] ++ (m, k) ∷ [])) (bucket_of t m k) []) (m, k) = subst (λ (b : ℕ). Contains (get_or (set bs at (get_or bs at [] ++ (m, k) ∷ [])) b []) (m, k)) ea here in
         rw (en, ej) there
-
-pub index_turns : (d : ℕ) (t : List (List (List ℤ))) (m k : ℕ) (bs : List (List Facet)) → suc d ≤ k → IsIndexBelow d t m k bs → IsIndexBelow d t (suc m) 0 bs
-index_turns d t m k bs lk h = record {
-  count = h.count;
-  each = λ n j p e. h.each n j p (wider n j p e);
-  before = λ b q l. past (entry_at bs b q) (h.before b q l);
-  ascending = h.ascending;
-  places = h.places;
-}
-  where
-    wider : (n j : ℕ) → j < suc d → IsEarlier (n, j) (suc m, 0) → IsEarlier (n, j) (m, k)
-    wider n j p (inl l) = elim (cases_lt n m) [ inl q ↦ inl q | inr q ↦ inr (omega (arith, l, q), omega (arith, p, lk)) ]
-    wider n j p (inr (e, l)) = absurd (omega (arith, l))
-
-    past : (a : Facet) → IsEarlier a (m, k) → IsEarlier a (suc m, 0)
-    past a (inl l) = inl (omega (arith, l))
-    past a (inr (e, l)) = inl (omega (arith, e))
 
 -- ---- what the index tells
 

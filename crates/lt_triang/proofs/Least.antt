@@ -1,5 +1,5 @@
 -- The class of independent points: they are sorted and moved back by the least.
-use Rattle.std.proofs.Common.{◌≡◌, ℕ, zero, suc, ℤ, pos, negsuc, ◌+ℤ◌, ◌*ℤ◌, refl, ap, arith, sym, ◌∙◌, subst, List, [], ◌∷◌, length, get_or, inl, inr}
+use Rattle.std.proofs.Common.{◌≡◌, ℕ, zero, suc, ℤ, negsuc, ◌+ℤ◌, ◌*ℤ◌, refl, ap, arith, sym, ◌∙◌, subst, List, [], ◌∷◌, length, get_or, inl, inr}
 use Rattle.std.proofs.lemmas.Int.{ints}
 use Rattle.std.specs.declared.cmp.Ordering.TheVariants.{Less}
 use Rattle.std.specs.List.{All, Contains}
@@ -8,32 +8,22 @@ use Rattle.std.proofs.lemmas.List.Sorted.{All-permutation, Contains-permutation,
 use Rattle.std.proofs.lemmas.List.Elements.{recursion_from_All, All-from_recursion}
 use Rattle.lt_model.proofs.Integers.{spread}
 use Rattle.lt_model.proofs.Sets.{Contains-head, Contains-cases, each_holds}
-use Rattle.lt_model.proofs.Vectors.{dot_comm, dot-plus, dot-scale}
-use Rattle.lt_model.proofs.Squares.{length-scale, length-plus}
-use Rattle.lt_model.proofs.Excess.{same_from_dots}
+use Rattle.lt_model.proofs.Squares.{length-scale}
 use Rattle.lt_model.proofs.Translates.{ascending_translate}
 use Rattle.lt_model.proofs.Moved.{simplex_moved, translate-back, Contains-translate}
-use Rattle.lt_model.proofs.Opposite.{length-zeros, zeros-dot}
 use Rattle.lt_model.specs.Order.{number_list_cmp}
-use Rattle.lt_model.specs.Vectors.{plus, minus, scale, dot, zeros}
+use Rattle.lt_model.specs.Vectors.{plus, minus, scale}
 use Rattle.lt_model.specs.Simplices.{AllOfDimension, AreIndependent, IsSimplex, translate}
+use Rattle.lt_model.proofs.Points.{minus_itself, opposite_twice}
 use Rattle.lt_triang.specs.Flat.{IsClassAt}
 use Rattle.lt_triang.proofs.Permuted.{independent_permuted}
 use Rattle.lt_lattice.specs.Ranges.{IsWithin}
 use Rattle.lt_triang.specs.Bounds.{AreNear}
-use Rattle.lt_triang.proofs.Independent.{strictly_from_sorted, opposite_twice}
+use Rattle.lt_triang.proofs.Independent.{strictly_from_sorted}
 
 pub all_permuted : (d : ℕ) (ps ss : List (List ℤ)) → IsPermutation ps ss → AllOfDimension d ps → AllOfDimension d ss
 all_permuted d ps ss h all =
     recursion_from_All (λ v. length v ≡ d) ss (All-permutation (λ v. length v ≡ d) ps ss h (All-from_recursion (λ v. length v ≡ d) ps all))
-
-pub none_left : (d : ℕ) (v : List ℤ) → length v ≡ d → plus v (scale (negsuc 0) v) ≡ zeros d
-none_left d v l = same_from_dots (plus v (scale (negsuc 0) v)) (zeros d) (length-plus v (scale (negsuc 0) v) (sym (length-scale (negsuc 0) v)) ∙ l ∙ sym (length-zeros d)) at
-  where
-    at : (u : List ℤ) → dot u (plus v (scale (negsuc 0) v)) ≡ dot u (zeros d)
-    at u =
-        let z : dot u (zeros d) ≡ pos 0 = dot_comm u (zeros d) ∙ zeros-dot d u in
-        dot-plus u v (scale (negsuc 0) v) ∙ (rw (dot-scale u (negsuc 0) v, z) (omega (arith, ints)))
 
 pub class_from_sorted : (d : ℕ) (ps ss : List (List ℤ)) → length ps ≡ suc d → AllOfDimension d ps → AreIndependent d ps → IsPermutation ps ss → IsSorted number_list_cmp ss →
     IsClassAt d ps (translate (scale (negsuc 0) (get_or ss 0 [])) ss) (get_or ss 0 [])
@@ -50,7 +40,7 @@ class_from_sorted d ps (v ∷ vs) l all free h up =
     let simplex : IsSimplex d ss = record { count = length_permutation ps ss h ∙ l; points = all'; independent = λ b lb sb nb. free' b lb sb nb } in
     record {
       dimension = all'.0;
-      «class» = record { simplex = simplex_moved d ss q lq simplex; ascending = ascending_translate d q ss lq all' strict; first = none_left d v all'.0 };
+      «class» = record { simplex = simplex_moved d ss q lq simplex; ascending = ascending_translate d q ss lq all' strict; first = minus_itself d v all'.0 };
       same = λ x. (λ k. subst (λ (w : List (List ℤ)). Contains w x) (sym back) (Contains-permutation ps ss x h k), λ k. Contains-permutation ss ps x (IsPermutation-sym ps ss h) (subst (λ (w : List (List ℤ)). Contains w x) back k));
       independent = λ b lb sb nb. free b lb sb nb;
       member = Contains-permutation ss ps v (IsPermutation-sym ps ss h) (Contains-head v vs);

@@ -1,16 +1,15 @@
 -- What makes a triangulation: ascending classes, closed under facets.
-use Rattle.std.proofs.Common.{◌≡◌, ℕ, zero, suc, ℤ, ◌<◌, ◌≤◌, refl, arith, sym, ◌∙◌, subst, List, [], ◌∷◌, ◌++◌, inl, inr, length, map, get_or, ◌↔◌}
+use Rattle.std.proofs.Common.{◌≡◌, ℕ, zero, suc, ℤ, ◌<◌, ◌≤◌, refl, arith, sym, ◌∙◌, subst, List, [], ◌∷◌, length, map, get_or, ◌↔◌}
 use Rattle.std.specs.List.{Contains}
 use Rattle.std.specs.List.Sorted.{IsStrictlySortedBy}
-use Rattle.std.proofs.lemmas.List.Elements.{Contains-get_or, Contains-push_cases}
-use Rattle.lt_model.proofs.Sets.{Contains-none}
+use Rattle.std.proofs.lemmas.List.Elements.{Contains-get_or}
+use Rattle.lt_model.proofs.Sets.{Contains-map}
 use Rattle.lt_model.specs.Order.{simplex_cmp}
-use Rattle.lt_model.specs.Simplices.{IsClass}
 use Rattle.lt_model.specs.Facets.{IsNeighbour, IsClosed}
 use Rattle.lt_model.specs.Limits.{class_span, span_limit}
 use Rattle.lt_triang.specs.Across.{IsFacing, IsOpen, IsFirstAcross, HasAcross}
 use Rattle.lt_triang.specs.Kept.{IsTriangulation, AreClasses}
-use Rattle.lt_triang.proofs.Gaps.{le_greatest, contains_map, greatest_at_most}
+use Rattle.lt_triang.proofs.Gaps.{le_greatest, greatest_at_most}
 
 pub same_classes : (d : ℕ) (xs zs : List (List (List ℤ))) → AreClasses d xs → ((s : List (List ℤ)) → Contains zs s ↔ Contains xs s) → AreClasses d zs
 same_classes d xs zs h same = record {
@@ -21,7 +20,7 @@ same_classes d xs zs h same = record {
 }
   where
     below : (s : List (List ℤ)) → Contains xs s → class_span s ≤ span_limit d
-    below s c = omega (arith, h.narrow, le_greatest (map class_span xs) (class_span s) (contains_map class_span xs s c))
+    below s c = omega (arith, h.narrow, le_greatest (map class_span xs) (class_span s) (Contains-map class_span xs s c))
 
 get_default : (xs : List (List (List ℤ))) (n : ℕ) (d e : List (List ℤ)) → n < length xs → get_or xs n d ≡ get_or xs n e
 get_default [] n d e p = absurd (omega arith)
@@ -71,19 +70,3 @@ not_open d t s i h c q none =
     at next p j k (n, l, e) =
         let f : IsFacing d s i next p j = record { dimension = k.dimension; facet = k.facet; beyond = k.beyond } in
         none n j l k.place p (subst (λ (z : List (List ℤ)). IsFacing d s i z p j) (sym (get_default t n [] next l ∙ e)) f)
-
--- ---- lists of classes that grow
-
-pub AreClasses-nil : (d : ℕ) → 2 ≤ d → d ≤ 6 → AreClasses d []
-AreClasses-nil d low high = record { low = low; high = high; classes = λ s c. Contains-none s c; narrow = omega arith }
-
-pub AreClasses-push : (d : ℕ) (t : List (List (List ℤ))) (s : List (List ℤ)) → AreClasses d t → IsClass d s → class_span s ≤ span_limit d → AreClasses d (t ++ s ∷ [])
-AreClasses-push d t s h k narrow = record {
-  low = h.low;
-  high = h.high;
-  classes = λ r c. elim (Contains-push_cases t s r c) [ inl m ↦ h.classes r m | inr e ↦ subst (IsClass d) e k ];
-  narrow = greatest_at_most class_span (t ++ s ∷ []) (span_limit d) (λ r c. elim (Contains-push_cases t s r c) [ inl m ↦ below r m | inr e ↦ subst (λ (x : List (List ℤ)). class_span x ≤ span_limit d) e narrow ]);
-}
-  where
-    below : (r : List (List ℤ)) → Contains t r → class_span r ≤ span_limit d
-    below r c = omega (arith, h.narrow, le_greatest (map class_span t) (class_span r) (contains_map class_span t r c))

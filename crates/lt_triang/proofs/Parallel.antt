@@ -4,10 +4,10 @@ use Rattle.std.proofs.lemmas.Int.{ints}
 use Rattle.lt_model.specs.Facets.{without}
 use Rattle.lt_model.specs.Vectors.{plus, minus}
 use Rattle.lt_model.specs.Simplices.{AllOfDimension, translate}
+use Rattle.lt_model.proofs.Dependent.{all_without}
+use Rattle.lt_model.proofs.Points.{get_dimension, minus_itself}
 use Rattle.lt_triang.specs.Across.{HasFacet}
-use Rattle.lt_triang.proofs.Least.{none_left}
-use Rattle.lt_triang.proofs.Shifts.{all_without, length_without}
-use Rattle.lt_triang.proofs.Steps.{get_dimension}
+use Rattle.lt_triang.proofs.Shifts.{length_without}
 
 -- x + (a - b) is y exactly where x - b is y - a
 moved_to : (d : ℕ) (x y a b : List ℤ) → length x ≡ d → length y ≡ d → length a ≡ d → length b ≡ d → (plus x (minus a b) ≡ y) ↔ (minus y a ≡ minus x b)
@@ -75,8 +75,8 @@ facet_point d s i k h p = get_dimension d k (without i s) [] (facet_points d s i
 pub first_alike : (d : ℕ) (s : List (List ℤ)) (i : ℕ) (next : List (List ℤ)) (j : ℕ) → HasFacet d s i → HasFacet d next j →
     minus (get_or (without i s) 0 []) (get_or (without i s) 0 []) ≡ minus (get_or (without j next) 0 []) (get_or (without j next) 0 [])
 first_alike d s i next j h k =
-    none_left d (get_or (without i s) 0 []) (facet_point d s i 0 h (omega (arith, h.low)))
-    ∙ sym (none_left d (get_or (without j next) 0 []) (facet_point d next j 0 k (omega (arith, h.low))))
+    minus_itself d (get_or (without i s) 0 []) (facet_point d s i 0 h (omega (arith, h.low)))
+    ∙ sym (minus_itself d (get_or (without j next) 0 []) (facet_point d next j 0 k (omega (arith, h.low))))
 
 pub parallel_facets : (d : ℕ) (s : List (List ℤ)) (i : ℕ) (next : List (List ℤ)) (j : ℕ) → HasFacet d s i → HasFacet d next j →
     ((m : ℕ) → m < d → minus (get_or (without i s) m []) (get_or (without i s) 0 []) ≡ minus (get_or (without j next) m []) (get_or (without j next) 0 [])) →

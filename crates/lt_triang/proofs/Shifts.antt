@@ -1,8 +1,7 @@
 -- The one shift that can take a facet to another, and how far it moves the outer vertex.
 use Rattle.std.proofs.Common.{◌≡◌, ℕ, zero, suc, ℤ, negsuc, ◌+ℤ◌, ◌*ℤ◌, ◌<◌, ◌≤◌, ◌+◌, refl, ap, add-one, arith, sym, ◌∙◌, subst, List, [], ◌∷◌, length, get_or, nat_abs}
 use Rattle.std.proofs.lemmas.Int.{ints}
-use Rattle.std.specs.List.{All, AllByRecursion, Contains, remove}
-use Rattle.lt_triang.proofs.Steps.{get_dimension}
+use Rattle.std.specs.List.{All, Contains, remove}
 use Rattle.std.proofs.lemmas.List.Elements.{Contains-get_or, All-nil, All-cons, All-head, All-tail}
 use Rattle.lt_model.proofs.Vectors.{dot-plus, dot-scale, plus_comm, plus_assoc}
 use Rattle.lt_model.proofs.Squares.{length-scale, length-plus}
@@ -12,6 +11,8 @@ use Rattle.lt_model.specs.Vectors.{plus, minus, scale, dot}
 use Rattle.lt_model.specs.Simplices.{AllOfDimension, IsClass, translate}
 use Rattle.lt_lattice.specs.Ranges.{IsWithin}
 use Rattle.lt_model.proofs.Translates.{without-translate, get-translate}
+use Rattle.lt_model.proofs.Dependent.{all_without}
+use Rattle.lt_model.proofs.Points.{get_dimension}
 use Rattle.lt_triang.specs.Bounds.{AreWithin, AreNear}
 use Rattle.lt_triang.specs.Across.{IsFacing, IsNotFacing}
 
@@ -39,11 +40,6 @@ pub length_without : (i : ℕ) (vs : List (List ℤ)) → i < length vs → suc 
 length_without i [] h = absurd (omega arith)
 length_without zero (v ∷ vs) h = refl
 length_without (suc i) (v ∷ vs) h = ap suc (length_without i vs (omega arith))
-
-pub all_without : (P : List ℤ → Type 0) (i : ℕ) (vs : List (List ℤ)) → AllByRecursion P vs → AllByRecursion P (without i vs)
-all_without P i [] h = tt
-all_without P zero (v ∷ vs) h = h.1
-all_without P (suc i) (v ∷ vs) h = (h.0, all_without P i vs h.1)
 
 pub contains_without : (i : ℕ) (vs : List (List ℤ)) (x : List ℤ) → Contains (without i vs) x → Contains vs x
 contains_without i [] x c = c

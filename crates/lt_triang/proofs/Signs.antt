@@ -10,9 +10,10 @@ use Rattle.lt_model.proofs.Moved.{dot-moved}
 use Rattle.lt_model.proofs.Opposite.{length-zeros, zeros-dot}
 use Rattle.lt_model.specs.Vectors.{scale, dot, total, combine, zeros, IsPrimitive}
 use Rattle.lt_model.specs.Simplices.{AllOfDimension, translate}
+use Rattle.lt_model.proofs.Expressions.{total-scale}
+use Rattle.lt_model.proofs.Points.{opposite_twice}
 use Rattle.lt_solve.specs.Systems.{IsColumnDependency}
 use Rattle.lt_triang.specs.Flat.{IsFlat, leading}
-use Rattle.lt_triang.proofs.Independent.{total-scaled, opposite_twice}
 
 -- a dependency of the differences, with the number that makes the sum 0 before it
 pub record IsRawFlat (d : ℕ) (points : List (List ℤ)) (terms : List ℤ) : Type 0 where
@@ -92,7 +93,7 @@ flat_from_raw d points raw t some all h either sign =
       | inl e ↦ record { one_each = ap length e ∙ h.one_each; total_is = ap total e ∙ h.total_is; sum = ap (λ l. combine l points) e ∙ h.sum; primitive = subst IsPrimitive (sym e) h.primitive; sign = sign }
       | inr e ↦ record {
         one_each = ap length e ∙ length-scale (negsuc 0) raw ∙ h.one_each;
-        total_is = ap total e ∙ total-scaled (negsuc 0) raw ∙ ap (λ n. negsuc 0 *ℤ n) h.total_is;
+        total_is = ap total e ∙ total-scale (negsuc 0) raw ∙ ap (λ n. negsuc 0 *ℤ n) h.total_is;
         sum = ap (λ l. combine l points) e ∙ same_from_dots (combine (scale (negsuc 0) raw) points) (zeros d) (length-combine d (scale (negsuc 0) raw) points all (length-scale (negsuc 0) raw ∙ h.one_each) some ∙ sym (length-zeros d)) at;
         primitive = subst IsPrimitive (sym e) (primitive_scale raw h.primitive);
         sign = sign;

@@ -1,5 +1,5 @@
 -- Points in order, and the differences of points from the first: counts, dimensions, bounds.
-use Rattle.std.proofs.Common.{◌≡◌, ℕ, zero, suc, ℤ, pos, negsuc, neg_ℤ, ◌<ℤ◌, ◌<◌, ◌≤◌, ◌-◌, refl, ap, arith, sym, ◌∙◌, subst, List, [], ◌∷◌, length, get_or, ◌⊎◌}
+use Rattle.std.proofs.Common.{◌≡◌, ℕ, suc, ℤ, pos, negsuc, neg_ℤ, ◌<ℤ◌, ◌<◌, ◌≤◌, ◌-◌, refl, ap, arith, sym, ◌∙◌, subst, List, [], ◌∷◌, length, get_or, ◌⊎◌}
 use Rattle.std.specs.List.{All, AllByRecursion, Contains}
 use Rattle.std.specs.List.Sorted.{IsPermutation}
 use Rattle.std.proofs.lemmas.List.Sorted.{Contains-permutation, IsPermutation-sym, length_permutation}
@@ -8,18 +8,14 @@ use Rattle.lt_model.proofs.Sets.{Contains-head, Contains-tail}
 use Rattle.lt_model.proofs.Excess.{length-translate}
 use Rattle.lt_model.specs.Vectors.{minus, scale, total, AreLinearlyIndependent}
 use Rattle.lt_model.specs.Simplices.{AllOfDimension, AreIndependent, translate}
+use Rattle.lt_model.proofs.Differences.{independent_from_differences}
+use Rattle.lt_model.proofs.Points.{get_dimension}
 use Rattle.lt_lattice.specs.Ranges.{IsWithin}
 use Rattle.lt_triang.specs.Bounds.{AreWithin, AreNear}
 use Rattle.lt_solve.specs.Systems.{IsColumnDependency}
 use Rattle.lt_triang.specs.Flat.{IsFlat, leading, columns_of}
-use Rattle.lt_triang.proofs.Independent.{independent_from_columns}
 use Rattle.lt_triang.proofs.Signs.{raw_from_columns, flat_from_raw}
 use Rattle.lt_triang.proofs.Least.{all_permuted}
-
-pub get_dimension : (d k : ℕ) (vs : List (List ℤ)) (e : List ℤ) → AllOfDimension d vs → k < length vs → length (get_or vs k e) ≡ d
-get_dimension d k [] e all p = absurd (omega arith)
-get_dimension d zero (v ∷ vs) e all p = all.0
-get_dimension d (suc k) (v ∷ vs) e all p = get_dimension d k vs e all.1 (omega arith)
 
 pub sorted_dimension : (d : ℕ) (ps ss : List (List ℤ)) (p : List ℤ) → 0 < length ps → AllOfDimension d ps → IsPermutation ps ss → p ≡ get_or ss 0 [] → AllOfDimension (length p) ss
 sorted_dimension d ps ss p some all h e =
@@ -49,7 +45,7 @@ of_near m (v ∷ vs) near = each vs (λ x c. near x v (Contains-tail v vs x c) (
 
 pub of_independent : (d : ℕ) (ps : List (List ℤ)) → length ps ≡ suc d → 0 < d → AllOfDimension d ps → AreLinearlyIndependent (columns_of ps) → AreIndependent d ps
 of_independent d [] l some all free = absurd (omega arith)
-of_independent d (v ∷ vs) l some all free = independent_from_columns d v vs (omega arith) (omega arith) all free
+of_independent d (v ∷ vs) l some all free = independent_from_differences d v vs (omega arith) (omega arith) all free
 
 pub of_flat : (d : ℕ) (ps : List (List ℤ)) (b t : List ℤ) → length ps ≡ suc d → 0 < d → AllOfDimension d ps → IsColumnDependency (columns_of ps) b →
     (t ≡ neg_ℤ (total b) ∷ b) ⊎ (t ≡ scale (negsuc 0) (neg_ℤ (total b) ∷ b)) → pos 0 <ℤ leading t → IsFlat d ps t

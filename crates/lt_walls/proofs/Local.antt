@@ -8,7 +8,7 @@ use Rattle.lt_walls.proofs.Signs.{mul_neg_pos, step, raised}
 use Rattle.lt_walls.proofs.Lists.{Alike, In, negative}
 use Rattle.lt_walls.proofs.Space.{Space, Simp, Expr, Strict, Definite, excess, excess-is, Opp, rise, rise-is, rescale, inner, change}
 use Rattle.lt_walls.proofs.Ellipsoid.{excess-alike}
-use Rattle.lt_walls.proofs.Strictly.{vertex-zero}
+use Rattle.lt_walls.proofs.Strictly.{vertex-zero, above}
 
 -- placed simplices with one scale, closed under facets and strictly empty for the definite form A; A and Q rise at each facet
 pub record Net {P Form : Type 0} (sp : Space P Form) (Mem : List P → Type 0) (A Q : Form) : Type 0 where
@@ -81,10 +81,6 @@ claim : {P Form : Type 0} → {sp : Space P Form} → {Mem : List P → Type 0} 
     (S : List P) → Mem S → (a : P → ℤ) → Expr sp x S t.scale a → excess (sp.val A) x S t.scale a <ℤ pos n → In sp.dec x S ⊎ (pos 0 <ℤ excess (sp.val Q) x S t.scale a)
 claim t x zero S mem a e lt = absurd (omega (arith, ints, (t.strict S mem).weak.outside x t.scale a e, lt))
 claim t x (suc n) S mem a e lt = onward t x n (claim t x n) S mem a e lt
-
-above : (z : ℤ) → (n : ℕ) × (z <ℤ pos n)
-above (pos n) = (suc n, omega (arith, ints))
-above (negsuc n) = (zero, omega (arith, ints))
 
 -- every one is strictly empty for Q
 pub local-strict : {P Form : Type 0} → {sp : Space P Form} → {Mem : List P → Type 0} → {A Q : Form} → (t : Net sp Mem A Q) → (S : List P) → Mem S → Strict sp (sp.val Q) S

@@ -216,16 +216,6 @@ same-opp {P} {Form} {sp} {p} {w} {z} {F} o k = record {
       ∙ sym (qs-lin (sp.hom j) k.bs o.bs o.m k.m F);
 }
 
-pub same-sym : {P Form : Type 0} → {sp : Space P Form} → {p w : P} → {F : List P} → Same sp p w F → Same sp w p F
-same-sym {P} {Form} {sp} {p} {w} {F} o = record {
-  c = o.m;
-  m = o.c;
-  bs = λ v. neg_ℤ (o.bs v);
-  c_pos = o.m_pos;
-  m_pos = o.c_pos;
-  flat = λ j. ring_by ((o.m *ℤ sp.hom j p) ∷ (o.c *ℤ sp.hom j w) ∷ (qs (sp.hom j) o.bs F) ∷ []) (var 0) (var 1 ⊕ neg (var 2)) (neg (num (pos 1))) (var 1) (var 0 ⊕ var 2) tt (o.flat j) ∙ ap (λ y. o.c *ℤ sp.hom j w +ℤ y) (sym (qs-minus (sp.hom j) o.bs F));
-}
-
 -- the outer vertex isn't the inner one
 pub opp-other : {P Form : Type 0} → {sp : Space P Form} → {p w : P} → {F : List P} → Simp sp (p ∷ F) → Opp sp p w F → w ≢ p
 opp-other {P} {Form} {sp} {p} {w} {F} h o e = omega (arith, ints, o.c_pos, o.m_pos, zero)

@@ -380,7 +380,7 @@ claim : {P Form R : Type 0} → {sp : Space P Form} → {Mem : List P → Type 0
 claim t k m margin x zero S mem a e lt = absurd (omega (arith, ints, (flipped-weak t S mem).outside x k.scale a e, lt))
 claim t k m margin x (suc n) S mem a e lt = onward t k m margin x n (claim t k m margin x n) S mem a e lt
 
-above : (z : ℤ) → (n : ℕ) × (z <ℤ pos n)
+pub above : (z : ℤ) → (n : ℕ) × (z <ℤ pos n)
 above (pos n) = (suc n, omega (arith, ints))
 above (negsuc n) = (zero, omega (arith, ints))
 

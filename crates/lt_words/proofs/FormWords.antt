@@ -34,19 +34,6 @@ form_end k d ts (inr (inr e)) t = subst (λ l. IsEnd d l ts) e t
 
 -- ---- words from a place on
 
--- no words stand anywhere
-pub no_words : (ws : List (List ℕ)) (place : ℕ) → HasWords ws place []
-no_words ws place i lt = absurd (omega (arith, lt))
-
--- words, and the next
-pub words_more : (ws vs : List (List ℕ)) (v : List ℕ) (place at : ℕ) → HasWords ws place vs → at ≡ place + length vs → HasWord ws at v → HasWords ws place (vs ++ v ∷ [])
-words_more ws [] v place at has e w zero lt = subst (λ n. HasWord ws n v) (omega (arith, e)) w
-words_more ws [] v place at has e w (suc i) lt = absurd (omega (arith, lt))
-words_more ws (u ∷ vs) v place at has e w zero lt = has 0 (omega arith)
-words_more ws (u ∷ vs) v place at has e w (suc i) lt =
-    let next : HasWords ws (suc place) vs = λ j less. subst (λ n. HasWord ws n (get_or vs j [])) (omega arith) (has (suc j) (omega (arith, less))) in
-    subst (λ n. HasWord ws n (get_or (vs ++ v ∷ []) i [])) (omega arith) (words_more ws vs v (suc place) at next (omega (arith, e)) w i (omega (arith, lt)))
-
 -- the words begin with them, too
 pub front_with : (ws front vs : List (List ℕ)) → HasFront ws front → HasWords ws (length front) vs → HasFront ws (front ++ vs)
 front_with ws front [] has w = subst (HasFront ws) (sym (append-nil front)) has

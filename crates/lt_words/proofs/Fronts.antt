@@ -16,10 +16,6 @@ pub front_alone : (ws front : List (List ℕ)) → HasFront ws front → length 
 front_alone ws front ([], e) len = e ∙ append-nil front
 front_alone ws front (v ∷ rest, e) len = absurd (omega (arith, len, ap length e, length-append front (v ∷ rest)))
 
--- and else there is a next word
-pub some_next : (ws front : List (List ℕ)) → HasFront ws front → (length ws ≡ length front → ⊥) → length front < length ws
-some_next ws front h other = let e = ap length h.1 ∙ length-append front h.0 in omega (arith, other, e)
-
 -- the front with the next word
 pub longer : (ws front : List (List ℕ)) (v : List ℕ) → HasFront ws front → length front < length ws → get_or ws (length front) [] ≡ v → HasFront ws (front ++ v ∷ [])
 longer ws front v ([], e) lt is = absurd (omega (arith, lt, ap length (e ∙ append-nil front)))

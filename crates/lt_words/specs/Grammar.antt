@@ -51,7 +51,8 @@ most_entry = 1000000
 abbrev pub IsWalkGiven : ℕ → List ℤ → Type 0
 IsWalkGiven steps q = (steps ≤ most_crossings) × All (IsWithin most_of_form) q
 
--- the forms of a section: one at least, in one number of variables, no more of them than a form has numbers, and with small numbers
+-- the forms of a section: one at least, in one number of variables, no more of them than a form has numbers, and with
+-- small numbers
 pub record AreGiven (forms : List (List ℤ)) : Type 0 where
   pub some : 0 < length forms
   pub few : length forms ≤ length (get_or forms 0 [])
@@ -171,12 +172,14 @@ pub record SpellsForm (word : List ℕ) (steps : ℕ) (q : List ℤ) (ws : List 
   pub numbers : length q ≡ numbers_of_form d
   pub words : ws ≡ word ∷ decimal d ∷ decimal steps ∷ map signed_decimal q
 
--- the word of a section, the dimension, the number of crossings, the number of forms, and the numbers of the forms, one form after the other
+-- the word of a section, the dimension, the number of crossings, the number of forms, and the numbers of the forms, one
+-- form after the other
 pub record SpellsForms (steps : ℕ) (forms : List (List ℤ)) (ws : List (List ℕ)) : Type 0 where
   pub d : ℕ
   pub dimension : IsDimension d
   pub numbers : All (λ q. length q ≡ numbers_of_form d) forms
-  pub words : ws ≡ codes "section" ∷ decimal d ∷ decimal steps ∷ decimal (length forms) ∷ map signed_decimal (flat_map (λ q. q) forms)
+  pub words : ws ≡ codes "section" ∷ decimal d ∷ decimal steps ∷ decimal (length forms) ∷ map signed_decimal
+      (flat_map (λ q. q) forms)
 
 -- ---- commands
 

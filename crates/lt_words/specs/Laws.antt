@@ -14,7 +14,8 @@ NoCommandHasAFault = (ws : List (List ℕ)) (p : ℕ) → IsAccepted ws → Faul
 
 -- words spell one command at most
 abbrev pub WordsSpellOneCommand : Type 0
-WordsSpellOneCommand = (c c' : Command) (ws : List (List ℕ)) → InRange c → InRange c' → Spells c ws → Spells c' ws → c ≡ c'
+WordsSpellOneCommand = (c c' : Command) (ws : List (List ℕ)) → InRange c → InRange c' → Spells c ws → Spells c' ws
+    → c ≡ c'
 
 -- the run that ends a drill stays within the limit on steps
 abbrev pub DrillsKeepTheStepLimit : Type 0

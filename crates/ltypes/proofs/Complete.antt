@@ -1,10 +1,10 @@
 -- Where no count of faults rose, the answers of commands are complete.
-use Rattle.std.proofs.Common.{◌≡◌, ◌≢◌, ◌⊎◌, ℕ, zero, suc, ℤ, ◌<◌, refl, arith, sym, ap, ◌∙◌, inl, inr, List, [], length, get_or, Bool, true, false}
-use Rattle.std.proofs.lemmas.Bool.{cases_eq, cases_lt}
+use Rattle.std.proofs.Common.{ℕ, ℤ, ◌<◌, refl, arith, sym, ap, ◌∙◌, inl, inr, List, [], length, get_or, Bool, true, false}
 use Rattle.lt_crew.specs.Runs.{IsSettledBelow}
-use Rattle.lt_model.specs.Atlases.{Classes, Event, Atlas, mark_at, place_at, event_at}
+use Rattle.lt_model.specs.Atlases.{Classes, Atlas, mark_at, place_at}
 use Rattle.lt_model.specs.Logs.{IsKept}
 use Rattle.lt_model.specs.Walls.{IsAcross}
+use Rattle.lt_model.proofs.Atlases.{event_there}
 use Rattle.lt_read.specs.declared.refusals.ReadError.TheVariants as read
 use Rattle.lt_read.specs.declared.refusals.Refusal.TheVariants.{TooLong}
 use Rattle.lt_words.specs.declared.words.Command.{Command}
@@ -28,18 +28,6 @@ use Rattle.ltypes.specs.Writings.{Answers}
 use Rattle.ltypes.proofs.Resuming.{narrow_runs}
 
 -- ---- a run
-
--- one of the first n events stands at position p, or none does
-event_there : (l : List Event) (p n : ℕ) → ((i : ℕ) × (i < n) × ((event_at l i).position ≡ p)) ⊎ ((i : ℕ) → i < n → (event_at l i).position ≢ p)
-event_there l p zero = inr (λ i h e. omega (arith, h))
-event_there l p (suc n) =
-    elim (event_there l p n) [
-      | inl h ↦ let k = h.1 in inl (h.0, omega (arith, k), h.2)
-      | inr none ↦ elim (cases_eq (event_at l n).position p) [
-        | inl e ↦ inl (n, omega arith, e)
-        | inr d ↦ inr (λ i h e. elim (cases_lt i n) [ inl k ↦ none i k e | inr k ↦ (let same : i ≡ n = omega (arith, h, k) in d (ap (λ (m : ℕ). (event_at l m).position) (sym same) ∙ e)) ])
-      ]
-    ]
 
 -- a settled position is decided by its event
 decided : (d steps : ℕ) (a : Atlas) → IsKept (IsAcross d) a → IsSettledBelow steps a → (p : ℕ) → p < length a.queue → p < steps → IsDecided d a p

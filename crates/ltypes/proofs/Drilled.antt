@@ -1,9 +1,8 @@
 -- What a drill finds: its entries match their scrambled images, its text is read again where it isn't too long, and how it ends.
-use Rattle.std.proofs.Common.{◌≡◌, ℕ, ℤ, ◌+◌, ◌*◌, ◌^◌, ◌<◌, ◌≤◌, refl, arith, sym, ap, ◌∙◌, subst, inl, inr, List, [], ◌++◌, length, Bool, true, false, cond, length-append}
-use Rattle.std.specs.Prelude.{Option, Some, None, Result, MatchOption, is_some, nat_le}
+use Rattle.std.proofs.Common.{◌≡◌, ℕ, ℤ, ◌+◌, ◌*◌, ◌<◌, ◌≤◌, refl, arith, sym, ap, ◌∙◌, subst, inl, inr, List, [], ◌++◌, length, true, length-append}
+use Rattle.std.specs.Prelude.{Option, Some, None, Result, MatchOption, is_some}
 use Rattle.std.proofs.lemmas.Bool.{cases_lt}
 use Rattle.lt_io.specs.Bytes.{AppendsFront, Wrote}
-use Rattle.lt_io.specs.Causes.{Rose}
 use Rattle.lt_io.proofs.Compose.{nothing_appended}
 use Rattle.lt_model.specs.Atlases.{Atlas, begin}
 use Rattle.lt_model.specs.Limits.{input_limit}
@@ -47,13 +46,6 @@ image_matches d x t image u None P h s same m =
     absurd (m (subst (λ (e : ℕ). AreEquivalent e image t) (sym same) (carries.inverse, carries_back n (rows n u) t image k.classes carries)))
 
 -- ---- reading again
-
-pub most_bytes : (d : ℕ) → input_limit d ≤ 2 ^ 30
-most_bytes d = most (nat_le d 5)
-  where
-    most : (b : Bool) → cond b (2 ^ 26) (2 ^ 30) ≤ 2 ^ 30
-    most true = omega arith
-    most false = omega arith
 
 -- more bytes than the limit stand at the front of a text that is too long
 pub front_too_long : (limit : ℕ) (held text : List ℕ) → AppendsFront (Some []) (Some held) text → limit < length held → limit < length text
@@ -100,11 +92,6 @@ module _ (d : ℕ) (a : Atlas) (run : IsOfRun a) (at : a.dimension ≡ d) (few :
               subst (λ (s : Refusal). IsUnread d a (Refused s)) (one_refusal_of_bytes 2 d (text_in 2 a) TooLong r (inr refl) there first) long
           | inr short ↦ absurd ((is_resumed short).accepted r (subst (λ (n : ℕ). IsFirstRefusal 2 n (text_in 2 a) r) (sym at) first))
         ]
-
--- a count that stays 0 didn't rise
-pub never_rose : Rose 0 0 → ⊥
-never_rose (inl h) = omega (arith, h)
-never_rose (inr h) = omega (arith, h.0)
 
 -- ---- the end
 

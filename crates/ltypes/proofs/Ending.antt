@@ -1,11 +1,12 @@
 -- How a run ends: its atlas is one of the stated run, and the cause tells how far it went.
-use Rattle.std.proofs.Common.{◌≡◌, ℕ, zero, suc, ◌-◌, ◌≤◌, refl, arith, sym, ap, ◌∙◌, subst, inr, length, Bool, false}
-use Rattle.lt_model.specs.Atlases.{Atlas, begin, undo, undo_all}
+use Rattle.std.proofs.Common.{◌≡◌, ℕ, ◌-◌, ◌≤◌, arith, sym, ap, ◌∙◌, subst, inr, length, Bool, false}
+use Rattle.lt_model.specs.Atlases.{Atlas, begin}
 use Rattle.lt_model.specs.RightAtlases.{IsClosedAtlas}
 use Rattle.lt_model.specs.Logs.{IsKept}
 use Rattle.lt_model.specs.Walls.{IsAcross}
 use Rattle.lt_core.proofs.Crossings.{across_laws}
 use Rattle.lt_core.proofs.Reaching.{closed_atlas, right_atlas_reached}
+use Rattle.lt_core.proofs.Undo.{undo_all-dimension}
 use Rattle.lt_crew.specs.Runs.{AreInOrder, AreBelow, AreSettled, IsSettledBelow}
 use Rattle.ltypes.specs.declared.status.Cause.{Cause}
 use Rattle.ltypes.specs.declared.status.Cause.TheVariants.{Finished, Unfinished, Memory, WriteFault}
@@ -13,15 +14,11 @@ use Rattle.ltypes.specs.Changes.{Change}
 use Rattle.ltypes.specs.Runs.{IsRun, IsRunHere, IsComplete, AnswersRun, IsEnd}
 use Rattle.ltypes.proofs.Closed.{closed_by_counts, counts_of_closed}
 
-undone_dimension : (n : ℕ) (a : Atlas) → (undo_all n a).dimension ≡ a.dimension
-undone_dimension zero a = refl
-undone_dimension (suc n) a = undone_dimension n (undo a)
-
 pub is_run : (d workers steps : ℕ) (s a : Atlas) → s.dimension ≡ d → begin a ≡ s → AreBelow steps a.log → AreSettled a → (workers ≡ 1 → AreInOrder a.log) → IsKept (IsAcross a.dimension) a → IsRun d workers steps s a
 is_run d workers steps s a at begins below settled order k = record { dimension = same; kept = subst (λ (z : ℕ). IsKept (IsAcross z) a) same k; begins = begins; below = below; settled = settled; order = order }
   where
     same : a.dimension ≡ d
-    same = sym (undone_dimension (length a.log - 0) a) ∙ ap (λ (z : Atlas). z.dimension) begins ∙ at
+    same = sym (undo_all-dimension (length a.log - 0) a) ∙ ap (λ (z : Atlas). z.dimension) begins ∙ at
 
 complete : (a : Atlas) → 2 ≤ a.dimension → IsKept (IsAcross a.dimension) a → IsClosedAtlas a → IsComplete a.dimension a
 complete a low k c =

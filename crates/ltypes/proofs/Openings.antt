@@ -3,21 +3,16 @@ use Rattle.std.proofs.Common.{◌≡◌, ℕ, zero, suc, ◌+◌, ◌-◌, ◌<�
 use Rattle.std.specs.List.{Contains}
 use Rattle.std.proofs.lemmas.Bool.{cases_lt}
 use Rattle.std.proofs.lemmas.List.{get_or_default}
-use Rattle.lt_model.specs.Atlases.{Mark, open_mark, cross, wide, heavy, no_mark, Atlas, mark_at, place_at, one_if_open, count_in, undecided, begin}
+use Rattle.lt_model.specs.Atlases.{Mark, open_mark, no_mark, Atlas, mark_at, place_at, one_if_open, count_in, undecided, begin}
 use Rattle.lt_model.specs.Logs.{IsKept}
 use Rattle.lt_model.specs.Walls.{IsAcross}
 use Rattle.lt_core.proofs.Undone.{all_stand}
+use Rattle.lt_core.proofs.Sounds.{not_open_counts}
 use Rattle.lt_crew.proofs.Queued.{open_is_queued, later_is_queued}
 use Rattle.ltypes.specs.Drills.{open_before, open_positions}
 
 pub open_counts : (m : Mark) → m ≡ open_mark → one_if_open m ≡ 1
 open_counts m e = ap one_if_open e
-
-pub other_counts : (m : Mark) → (m ≡ open_mark → ⊥) → one_if_open m ≡ 0
-other_counts open_mark n = absurd (n refl)
-other_counts (cross k u) n = refl
-other_counts (wide s w) n = refl
-other_counts (heavy w) n = refl
 
 -- an open position among the first n is counted
 counted : (a : Atlas) (n p : ℕ) → p < n → mark_at a.marks (place_at a.queue p) ≡ open_mark → 0 < open_before a n
@@ -36,7 +31,7 @@ counted a (suc n) p l o =
 row_counts : (ms : List Mark) → ((f : ℕ) → f < length ms → get_or ms f no_mark ≡ open_mark → ⊥) → count_in one_if_open ms ≡ 0
 row_counts [] h = refl
 row_counts (m ∷ ms) h =
-    let here = other_counts m (h 0 (omega arith)) in
+    let here = not_open_counts m (h 0 (omega arith)) in
     let rest = row_counts ms (λ f l. h (suc f) (omega (arith, l))) in
     omega (arith, here, rest)
 
@@ -75,4 +70,4 @@ pub one_more_open : (a : Atlas) (p : ℕ) → mark_at a.marks (place_at a.queue 
 one_more_open a p e = let one = open_counts (mark_at a.marks (place_at a.queue p)) e in rw (add-one p) (omega (arith, one))
 
 pub as_many_open : (a : Atlas) (p : ℕ) → (mark_at a.marks (place_at a.queue p) ≡ open_mark → ⊥) → open_before a (p + 1) ≡ open_before a p
-as_many_open a p n = let none = other_counts (mark_at a.marks (place_at a.queue p)) n in rw (add-one p) (omega (arith, none))
+as_many_open a p n = let none = not_open_counts (mark_at a.marks (place_at a.queue p)) n in rw (add-one p) (omega (arith, none))

@@ -3,11 +3,12 @@ use Rattle.std.proofs.Common.{◌≡◌, ℕ, zero, suc, ℤ, pos, ◌+◌, ◌<
 use Rattle.std.proofs.Math.Seq.{take-suc}
 use Rattle.std.proofs.lemmas.List.{length-map, get_or-map}
 use Rattle.std.proofs.lemmas.Bool.{cases_lt}
-use Rattle.std.proofs.lemmas.Int.{ints, to_z-of_z}
+use Rattle.std.proofs.lemmas.Int.{to_z-of_z}
 use Rattle.std.proofs.Math.Nat.{min-le_left}
-use mir.Val.{SFits, to_z, of_z}
+use mir.Val.{to_z, of_z}
 use mir.Syntax.{w128}
 use Rattle.lt_model.specs.Atlases.{Atlas, Entry, no_entry, entry_at}
+use Rattle.lt_locate.proofs.Weighed.{fits}
 use Rattle.ltypes.specs.Summaries.{weight_of, entry_weights, entry_summary, entry_summaries, totals_line}
 
 pub summaries_split : (a : Atlas) (k n : ℕ) → k ≤ n → (rest : List ℕ) × (entry_summaries a n ≡ entry_summaries a k ++ rest)
@@ -34,9 +35,6 @@ next_weight a ws us k w l e f is =
 pub same_totals : (word : List ℕ) (e e' f f' x x' u u' : ℕ) → e ≡ e' → f ≡ f' → x ≡ x' → u ≡ u' → totals_line word e f x u ≡ totals_line word e' f' x' u'
 same_totals word e e' f f' x x' u u' p q r s =
     ap (λ (n : ℕ). totals_line word n f x u) p ∙ ap (λ (n : ℕ). totals_line word e' n x u) q ∙ ap (λ (n : ℕ). totals_line word e' f' n u) r ∙ ap (λ (n : ℕ). totals_line word e' f' x' n) s
-
-fits : (w : ℕ) → w ≤ 2 ^ 120 → SFits w128 (pos w)
-fits w h = omega (arith, ints, h)
 
 -- a weight keeps its value in 128 bits
 pub same_weight : (d : ℕ) (e : Entry) (z : ℤ) → z ≡ pos (weight_of d e) → to_z w128 (of_z w128 z) ≡ z

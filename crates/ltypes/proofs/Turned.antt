@@ -1,58 +1,17 @@
 -- A drill, turn after turn: each event of its log stands at the position that was drawn.
-use Rattle.std.proofs.Common.{◌≡◌, ℕ, suc, ◌+◌, ◌-◌, ◌<◌, ◌≤◌, refl, arith, add-one, sym, ap, ◌∙◌, subst, inl, inr, ◌⊎◌, List, [], ◌∷◌, ◌++◌, length, true, false}
+use Rattle.std.proofs.Common.{◌≡◌, ℕ, suc, ◌+◌, ◌-◌, ◌<◌, ◌≤◌, refl, arith, add-one, sym, ap, ◌∙◌, subst, inl, inr, ◌⊎◌, List, [], ◌∷◌, length}
 use Rattle.std.specs.Prelude.{Result, Ok, Err, OnOk}
 use Rattle.std.proofs.lemmas.Bool.{cases_lt}
 use Rattle.std.proofs.lemmas.List.{get_or_at, get_or_append_left}
-use Rattle.lt_model.specs.Atlases.{cross, wide, heavy, Event, Atlas, no_event, event_at, push, grow, cut, begin, Mark, Entry, undecided}
+use Rattle.lt_model.specs.Atlases.{Event, Atlas, no_event, event_at, cut, begin, undecided}
 use Rattle.lt_model.specs.Logs.{IsKept}
-use Rattle.lt_model.specs.Matrices.{identity}
-use Rattle.lt_model.specs.RightAtlases.{IsOpenAt}
 use Rattle.lt_model.specs.Walls.{IsAcross}
-use Rattle.lt_core.specs.Candidates.{candidate}
 use Rattle.lt_core.specs.Starts.{IsStarting}
-use Rattle.lt_core.proofs.Undo.{length_more, cut_now, cut_push, cut_grow, undo_all-dimension}
+use Rattle.lt_core.proofs.Undo.{length_more, cut_now, undo_all-dimension}
 use Rattle.lt_crew.specs.Settled.{IsSettled}
 use Rattle.lt_drill.specs.States.{next_state, answer_at, after, drawn}
+use Rattle.lt_crew.proofs.Steps.{IsNext, settled_next}
 use Rattle.ltypes.specs.Drills.{open_positions, IsOpenNumber, IsTurn, IsDrawnAt, IsDrilled}
-
--- the log of b has one event more, at position p, and without it b is a
-record IsLater (a : Atlas) (p : ℕ) (b : Atlas) : Type 0 where
-  cuts : (i : ℕ) → i ≤ length a.log → cut b i ≡ cut a i
-  event : Event
-  log : b.log ≡ a.log ++ event ∷ []
-  position : event.position ≡ p
-  entries : length b.entries ≤ suc (length a.entries)
-
-later_push : (a : Atlas) (p : ℕ) (m : Mark) → IsOpenAt a p → IsLater a p (push a p m)
-later_push a p m h = record {
-  cuts = λ i l. cut_push a p m i h l;
-  event = record { position = p; mark = m; fresh = false };
-  log = refl;
-  position = refl;
-  entries = omega arith;
-}
-
-later_grow : (a : Atlas) (p : ℕ) (e : Entry) → IsOpenAt a p → IsLater a p (grow a p e)
-later_grow a p e h = record {
-  cuts = λ i l. cut_grow a p e i h l;
-  event = record { position = p; mark = cross (length a.entries) (identity a.dimension); fresh = true };
-  log = refl;
-  position = refl;
-  entries = let l = length_more a.entries e in omega (arith, l);
-}
-
-later : (a b : Atlas) (p : ℕ) → IsOpenAt a p → IsSettled a p b → IsLater a p b
-later a b p h s =
-    elim s.end [
-      | inl w ↦ subst (λ (z : Atlas). IsLater a p z) (sym w.3) (later_push a p (wide w.0 w.1) h)
-      | inr n ↦ elim n.1 [
-        | inl k ↦ subst (λ (z : Atlas). IsLater a p z) (sym k.3) (later_push a p (cross k.0 k.1) h)
-        | inr o ↦ elim o [
-          | inl v ↦ subst (λ (z : Atlas). IsLater a p z) (sym v.2) (later_push a p (heavy v.0) h)
-          | inr g ↦ subst (λ (z : Atlas). IsLater a p z) (sym g.3) (later_grow a p (candidate a p s.across g.0) h)
-        ]
-      ]
-    ]
 
 -- the drill of s with the seed has taken n turns, and the generator's number is x
 pub record IsDrilledTo (s : Atlas) (seed x n : ℕ) (a : Atlas) : Type 0 where
@@ -75,8 +34,8 @@ no_turn d seed s start =
     }
 
 module _ (s : Atlas) (seed x n : ℕ) (a b : Atlas) (before : IsDrilledTo s seed x n a) (turn : IsTurn x a b) where
-  step : IsLater a turn.position b
-  step = later a b turn.position turn.drawn.position turn.settled
+  step : IsNext a turn.position b
+  step = settled_next a b turn.position turn.drawn.position turn.settled
 
   long : length b.log ≡ suc n
   long = ap length step.log ∙ length_more a.log step.event ∙ ap suc before.done
@@ -86,13 +45,13 @@ module _ (s : Atlas) (seed x n : ℕ) (a b : Atlas) (before : IsDrilledTo s seed
   earlier i l =
       let h : i < length a.log = omega (arith, l, before.done) in
       let event : event_at b.log i ≡ event_at a.log i = ap (λ (z : List Event). event_at z i) step.log ∙ get_or_append_left a.log (step.event ∷ []) no_event i h in
-      subst (λ (c : Atlas). IsOpenNumber c (drawn (suc i) seed (open_positions c)) (event_at b.log i).position) (sym (step.cuts i (omega (arith, h))))
+      subst (λ (c : Atlas). IsOpenNumber c (drawn (suc i) seed (open_positions c)) (event_at b.log i).position) (sym (step.past i (omega (arith, h))))
       (subst (λ (e : Event). IsOpenNumber (cut a i) (drawn (suc i) seed (open_positions (cut a i))) e.position) (sym event) (before.drawn i h))
 
   -- and the event of the turn
   last : IsDrawnAt seed b n
   last =
-      let met : cut b n ≡ a = step.cuts n (omega (arith, before.done)) ∙ ap (cut a) (sym before.done) ∙ cut_now a in
+      let met : cut b n ≡ a = step.past n (omega (arith, before.done)) ∙ ap (cut a) (sym before.done) ∙ cut_now a in
       let at : (event_at b.log n).position ≡ turn.position = ap (λ (z : List Event). (event_at z n).position) step.log ∙ ap (λ (e : Event). e.position) (get_or_at a.log step.event [] no_event n before.done) ∙ step.position in
       let number : answer_at (next_state x) (open_positions a) ≡ drawn (suc n) seed (open_positions a) = ap (λ (y : ℕ). answer_at (next_state y) (open_positions a)) before.state in
       subst (λ (c : Atlas). IsOpenNumber c (drawn (suc n) seed (open_positions c)) (event_at b.log n).position) (sym met)
@@ -103,7 +62,7 @@ module _ (s : Atlas) (seed x n : ℕ) (a b : Atlas) (before : IsDrilledTo s seed
   next = record {
     state = ap next_state before.state;
     done = long;
-    begins = step.cuts 0 (omega arith) ∙ before.begins;
+    begins = step.past 0 (omega arith) ∙ before.begins;
     drawn = λ i l. elim (cases_lt i n) [
       | inl h ↦ earlier i h
       | inr h ↦ subst (λ (k : ℕ). IsDrawnAt seed b k) (let same : n ≡ i = omega (arith, h, l, long) in same) last

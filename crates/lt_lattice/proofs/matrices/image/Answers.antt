@@ -1,4 +1,4 @@
-use Rattle.std.proofs.Common.{rules, arith, sym, ◌∙◌, ap, ◌<◌, ◌≤◌, ◌*◌, ◌^◌, pos, [], length, get_or, List, ℤ, refl}
+use Rattle.std.proofs.Common.{rules, arith, sym, ◌∙◌, ap, ◌<◌, ◌≤◌, ◌*◌, ◌^◌, pos, length, get_or, List, [], ℤ, refl}
 use Rattle.std.proofs.lemmas.Int.{to_z-of_z}
 use mir.Val.{SFits}
 use mir.Syntax.{w128}
@@ -6,9 +6,10 @@ use Rattle.std.proofs.lemmas.List.{take_more, take_all}
 use Rattle.lt_model.specs.Flat.{rows}
 use Rattle.lt_model.specs.Matrices.{apply}
 use Rattle.lt_model.proofs.Flat.{length-first_rows}
+use Rattle.lt_model.proofs.Points.{length-apply}
 use Rattle.lt_lattice.specs.Ranges.{size_of_dot}
 use Rattle.lt_lattice.proofs.Dots.{size_within}
-use Rattle.lt_lattice.proofs.Places.{row_within, length_row, length-apply, get-apply}
+use Rattle.lt_lattice.proofs.Places.{row_within, length_row, get-apply}
 use Rattle.lt_lattice.proofs.matrices.image.Goals as goal
 
 pub inner_product-requires-clause-same : goal.inner_product-requires-clause-same

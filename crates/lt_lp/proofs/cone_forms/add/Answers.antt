@@ -4,7 +4,8 @@ use Rattle.std.proofs.lemmas.Int.{to_z-of_z}
 use native.Mathlib.Decide.{dec_le}
 use Rattle.lt_model.specs.Padded.{lookup}
 use Rattle.lt_tableau.proofs.Sums.{lookup_is}
-use Rattle.lt_lp.proofs.WallSums.{add_step, sum_size, small_at, past}
+use Rattle.lt_tableau.proofs.Starts.{lookup_past}
+use Rattle.lt_lp.proofs.WallSums.{add_step, sum_size, small_at}
 use Rattle.lt_lp.proofs.cone_forms.add.Goals as goal
 
 pub overflow_add-sums : goal.overflow_add-sums
@@ -42,7 +43,7 @@ returns-clause-sums c q = pick (dec_le c.loop-i.i q)
         let s = c.loop-i.invariant.size in
         let t = c.requires.same in
         let f = c.loop-i-test.false in
-        rw (past c.loop-i.sums q (omega arith), past c.args.sums.now q (omega arith), past c.args.numbers.now q (omega arith)) refl
+        rw (lookup_past c.loop-i.sums q (omega arith), lookup_past c.args.sums.now q (omega arith), lookup_past c.args.numbers.now q (omega arith)) refl
 
 pub returns-clause-small : goal.returns-clause-small
 returns-clause-small c q =

@@ -6,8 +6,9 @@ use mir.Syntax.{w64, w128}
 use Rattle.lt_model.specs.Vectors.{scale, unit, combine}
 use Rattle.lt_model.proofs.Vectors.{scale-scale}
 use Rattle.lt_model.specs.Cones.{AreBelow}
+use Rattle.lt_model.proofs.Points.{count_rest}
 use Rattle.lt_solve.specs.Systems.{IsSolution, IsColumnDependency, column_limit, answer_limit}
-use Rattle.lt_match.proofs.Multiples.{IsBasisUpTo, rest_independent, independent_columns, count_rest, basis_more, basis_done, small_column, scaled_great, scaled_small, multiple_small, length-multiple}
+use Rattle.lt_match.proofs.Multiples.{IsBasisUpTo, rest_independent, independent_columns, basis_more, basis_done, small_column, scaled_great, scaled_small, multiple_small, length-multiple}
 use Rattle.lt_match.proofs.bases.basis_of.Goals as goal
 
 short : (n : ℕ) → n ≤ 2 ^ 20 → SFits w64 (pos n)

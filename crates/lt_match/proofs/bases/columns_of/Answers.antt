@@ -2,11 +2,11 @@ use Rattle.std.proofs.Common.{arith, ◌≡◌, ◌*◌, ◌-◌, ◌∙◌, ℕ
 use Rattle.std.specs.List.{All}
 use Rattle.lt_model.specs.Limits.{span_limit}
 use Rattle.lt_model.specs.Flat.{flat}
+use Rattle.lt_model.proofs.Points.{count_rest}
 use Rattle.lt_lattice.specs.Ranges.{IsWithin}
 use Rattle.lt_solve.specs.Systems.{chunks}
-use Rattle.lt_triang.proofs.Columned.{All-flat}
-use Rattle.lt_match.proofs.Written.{drop_dimension, length-flat_rest, chunks-flat, drop_within}
-use Rattle.lt_match.proofs.Multiples.{count_rest}
+use Rattle.lt_triang.proofs.Columned.{All-flat, drop_dimension}
+use Rattle.lt_match.proofs.Written.{length-flat_rest, chunks-flat, drop_within}
 use Rattle.lt_match.proofs.bases.columns_of.Goals as goal
 
 less_one : (n d : ℕ) → n ≡ suc d → n - 1 ≡ d

@@ -1,7 +1,7 @@
-use Rattle.std.proofs.Common.{arith, ◌≡◌, ◌*◌, ◌-◌, ◌≤◌, ◌∙◌, ℕ, suc, ap, sym, [], length, get_or, drop, mul-le-mul}
+use Rattle.std.proofs.Common.{arith, ◌≡◌, ◌*◌, ◌-◌, ◌≤◌, ◌∙◌, ℕ, suc, ap, sym, length, get_or, drop, mul-le-mul, []}
 use Rattle.std.proofs.lemmas.List.{length-append, get_or_read}
 use Rattle.lt_model.specs.Flat.{flat}
-use Rattle.lt_triang.proofs.Steps.{get_dimension}
+use Rattle.lt_model.proofs.Points.{get_dimension}
 use Rattle.lt_match.proofs.Written.{length-flat_rest}
 use Rattle.lt_match.proofs.bases.numbers_of.Goals as goal
 

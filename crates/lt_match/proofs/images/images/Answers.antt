@@ -4,7 +4,7 @@ use Rattle.std.specs.List.{All}
 use Rattle.lt_lattice.specs.Ranges.{IsWithin}
 use Rattle.lt_model.specs.Matrices.{apply}
 use Rattle.lt_model.specs.Flat.{rows}
-use Rattle.lt_triang.proofs.Steps.{get_dimension}
+use Rattle.lt_model.proofs.Points.{get_dimension}
 use Rattle.lt_match.proofs.Placed.{each_image}
 use Rattle.lt_match.proofs.images.images.Goals as goal
 

@@ -22,8 +22,8 @@ entry-requires-2 c =
     present_at c.requires.merged.0 t a (omega (arith, c.requires.same, c.keeps.ensures.low)) c.requires.same c.keeps.ensures.low c.keeps.ensures.kept c.args.k c.requires.entry c.requires.merged.1 c.requires.unlike
     c.entry.result.now.origin c.in-Some.origin (ap (λ (z : model.Entry). z.origin) c.entry.ensures) c.in-Some.is
 
-pub place_of-requires : goal.place_of-requires
-place_of-requires c =
+pub first_known-requires : goal.first_known-requires
+first_known-requires c =
     let a = c.args.atlas.now in
     let t = c.args.second.now in
     let present =

@@ -11,8 +11,8 @@ use Rattle.lt_merge.proofs.merging.merge.Goals as goal
 pub loop-k-init : goal.loop-k-init
 loop-k-init c = merging_starts c.args.first c.args.second.now c.keeps.ensures.kept c.requires.unrun
 
-pub place_of-requires : goal.place_of-requires
-place_of-requires c =
+pub first_known-requires : goal.first_known-requires
+first_known-requires c =
     let a = c.loop-k.atlas in
     let t = c.args.second.now in
     let same = still_same c.args.first a t c.loop-k.invariant.begins c.requires.same in

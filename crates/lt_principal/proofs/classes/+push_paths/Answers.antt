@@ -1,11 +1,12 @@
-use Rattle.std.proofs.Common.{arith, refl, ◌≡◌, ◌≢◌, ◌∙◌, ap, ◌-◌, ◌++◌, ◌∷◌, [], length, length-append, pos}
+use Rattle.std.proofs.Common.{arith, refl, ◌≡◌, ◌≢◌, ◌∙◌, ap, ◌-◌, ◌++◌, [], ◌∷◌, length, length-append, pos}
 use Rattle.std.proofs.lemmas.Int.{ints}
 use Rattle.lt_principal.proofs.classes.+push_paths.Goals.{then-coord-eq0+in_ok-push_paths, else-coord-eq0}
 use Rattle.lt_model.specs.Vectors.{plus, unit}
 use Rattle.lt_model.specs.Facets.{number_at}
+use Rattle.lt_model.proofs.Points.{all_appended}
 use Rattle.lt_geometry.proofs.Paths.{length-step}
 use Rattle.lt_principal.specs.Paths.{points_of, last_point, ways, before_each}
-use Rattle.lt_principal.proofs.Ways.{some_steps, way_taken, way_passed, last_dimension, last_appended, all_appended}
+use Rattle.lt_principal.proofs.Ways.{some_steps, way_taken, way_passed, last_dimension, last_appended}
 use Rattle.lt_principal.proofs.classes.+push_paths.Goals as goal
 
 pub loop-j-init : goal.loop-j-init

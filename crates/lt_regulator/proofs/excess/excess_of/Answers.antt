@@ -1,4 +1,4 @@
-use Rattle.std.proofs.Common.{arith, ◌≡◌, ◌<◌, ◌≤◌, ◌*◌, ◌^◌, ◌-ℤ◌, neg_ℤ, pos, ℕ, ℤ, length, get_or, [], List, ap, sym, ◌∙◌, nat_abs}
+use Rattle.std.proofs.Common.{arith, ◌≡◌, ◌<◌, ◌≤◌, ◌*◌, ◌^◌, ◌-ℤ◌, neg_ℤ, pos, ℕ, ℤ, length, get_or, List, [], ap, sym, ◌∙◌, nat_abs}
 use Rattle.std.proofs.lemmas.Int.{ints, to_z-of_z}
 use Rattle.std.proofs.lemmas.List.Elements.{All-head, All-tail}
 use Rattle.std.specs.List.{All}
@@ -6,10 +6,10 @@ use mir.Syntax.{w128}
 use mir.Val.{SFits}
 use Rattle.lt_model.specs.Vectors.{plus, scale}
 use Rattle.lt_model.specs.Forms.{squares, numbers_of_form}
+use Rattle.lt_model.proofs.Points.{get_dimension}
 use Rattle.lt_lattice.proofs.Products.{length-squares, squares_within}
 use Rattle.lt_lattice.proofs.Lengths.{at_most_21}
 use Rattle.lt_triang.proofs.Shifts.{get_within, within_more}
-use Rattle.lt_triang.proofs.Steps.{get_dimension}
 use Rattle.lt_regulator.proofs.Excesses.{summed_start, summed_more, summed_whole, summed_below, summed_size, any_default}
 use Rattle.lt_regulator.proofs.excess.excess_of.Goals as goal
 

@@ -2,7 +2,7 @@ use Rattle.std.proofs.Common.{ℕ, ℤ, List, sym, subst}
 use Rattle.lt_model.specs.Flat.{rows}
 use Rattle.lt_model.specs.Matrices.{IsInverse, Carries}
 use Rattle.lt_model.specs.Triangulations.{IsDelaunay}
-use Rattle.lt_rows.proofs.Dimensions.{dimension}
+use Rattle.lt_flip.proofs.Wide.{delaunay_dimension}
 use Rattle.lt_rows.proofs.matching.image_by.Goals as goal
 
 pub image-requires-clause-inverse : goal.image-requires-clause-inverse
@@ -17,7 +17,7 @@ returns-in-Ok-clause-dimension g c =
     let h : IsDelaunay 2 c.requires.delaunay.0 c.args.t.now = subst (λ (n : ℕ). IsDelaunay n c.requires.delaunay.0 c.args.t.now) plane c.requires.delaunay.1 in
     let k : Carries 2 (rows 2 c.args.u.now) c.args.t.now c.in-Ok.made = subst (λ (n : ℕ). Carries n (rows n c.args.u.now) c.args.t.now c.in-Ok.made) plane c.in-Ok.ensures.made in
     let r = law 2 (rows 2 c.args.u.now) c.args.t.now c.in-Ok.made c.requires.delaunay.0 k c.dimension-dimension.ensures.ascending h in
-    dimension 2 r.0 c.in-Ok.made r.1
+    delaunay_dimension 2 r.0 c.in-Ok.made r.1
 
 pub returns-in-Ok-clause-delaunay : goal.returns-in-Ok-clause-delaunay
 returns-in-Ok-clause-delaunay g c =
@@ -26,4 +26,4 @@ returns-in-Ok-clause-delaunay g c =
     let h : IsDelaunay 2 c.requires.delaunay.0 c.args.t.now = subst (λ (n : ℕ). IsDelaunay n c.requires.delaunay.0 c.args.t.now) plane c.requires.delaunay.1 in
     let k : Carries 2 (rows 2 c.args.u.now) c.args.t.now c.in-Ok.made = subst (λ (n : ℕ). Carries n (rows n c.args.u.now) c.args.t.now c.in-Ok.made) plane c.in-Ok.ensures.made in
     let r = law 2 (rows 2 c.args.u.now) c.args.t.now c.in-Ok.made c.requires.delaunay.0 k c.dimension-dimension.ensures.ascending h in
-    (r.0, subst (λ (n : ℕ). IsDelaunay n r.0 c.in-Ok.made) (sym (dimension 2 r.0 c.in-Ok.made r.1)) r.1)
+    (r.0, subst (λ (n : ℕ). IsDelaunay n r.0 c.in-Ok.made) (sym (delaunay_dimension 2 r.0 c.in-Ok.made r.1)) r.1)

@@ -2,7 +2,7 @@ use Rattle.std.proofs.Common.{refl}
 use Rattle.std.specs.Ordering.{int_cmp}
 use Rattle.std.specs.Cmp.Lexicographic.{lists_ties}
 use Rattle.std.proofs.lemmas.List.Filters.{dedup_is}
-use Rattle.lt_section.proofs.SortedNormals.{distinct}
+use Rattle.lt_regulator.proofs.Collected.{distinct}
 use Rattle.lt_section.proofs.restricting.sorted_distinct.Goals as goal
 
 pub returns : goal.returns

@@ -2,7 +2,7 @@ use Rattle.std.proofs.Common.{ℤ, List, pos, ◌∷◌, subst, ◌∙◌, sym}
 use Rattle.std.specs.Prelude.{codes}
 use Rattle.lt_io.specs.Bytes.{Wrote}
 use Rattle.lt_lines.specs.Lines.{line}
-use Rattle.lt_text.proofs.Squares.{flat-matrix_rows}
+use Rattle.lt_core.proofs.Standing.{flat-matrix_rows}
 use Rattle.lt_text.proofs.marks.write_cross.Goals as goal
 
 pub returns-clause-bytes : goal.returns-clause-bytes

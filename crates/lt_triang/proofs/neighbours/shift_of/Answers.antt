@@ -1,12 +1,13 @@
-use Rattle.std.proofs.Common.{arith, ◌≡◌, ◌+◌, ◌^◌, get_or, [], sym, ◌∙◌, List, ℤ, length}
+use Rattle.std.proofs.Common.{arith, ◌≡◌, ◌+◌, ◌^◌, get_or, sym, ◌∙◌, List, [], ℤ, length}
 use Rattle.std.specs.List.{All}
 use Rattle.std.proofs.lemmas.Bool.{false≢true}
 use Rattle.lt_lattice.specs.Ranges.{IsWithin}
 use Rattle.lt_model.specs.Vectors.{minus}
 use Rattle.lt_model.specs.Facets.{without}
 use Rattle.lt_model.specs.Limits.{span_limit}
+use Rattle.lt_model.proofs.Dependent.{all_without}
 use Rattle.lt_triang.proofs.Gaps.{twice_limit}
-use Rattle.lt_triang.proofs.Shifts.{within_minus, within_more, get_within, all_without}
+use Rattle.lt_triang.proofs.Shifts.{within_minus, within_more, get_within}
 use Rattle.lt_triang.proofs.Parallel.{facet_point, length-facet}
 use Rattle.lt_triang.proofs.neighbours.shift_of.Goals as goal
 

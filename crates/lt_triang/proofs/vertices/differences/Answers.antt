@@ -1,9 +1,9 @@
-use Rattle.std.proofs.Common.{arith, ◌≡◌, ◌-◌, get_or, [], negsuc, length, ap, ◌∙◌, ℤ, List, refl}
+use Rattle.std.proofs.Common.{arith, ◌≡◌, ◌-◌, get_or, negsuc, length, ap, ◌∙◌, ℤ, List, [], refl}
 use Rattle.std.proofs.lemmas.List.{get_or_read}
 use Rattle.lt_model.specs.Vectors.{scale}
 use Rattle.lt_model.proofs.Squares.{length-scale}
+use Rattle.lt_model.proofs.Points.{get_dimension}
 use Rattle.lt_triang.proofs.Columned.{room}
-use Rattle.lt_triang.proofs.Steps.{get_dimension}
 use Rattle.lt_triang.proofs.vertices.differences.Goals as goal
 
 pub push_differences-requires-clause-room : goal.push_differences-requires-clause-room

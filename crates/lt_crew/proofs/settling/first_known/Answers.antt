@@ -9,7 +9,7 @@ use Rattle.lt_match.specs.Matches.{IsFirstMatch}
 use Rattle.lt_crew.proofs.Places.{entry_dimension, entry_delaunay}
 use Rattle.lt_crew.proofs.Beyond.{first_known, no_match}
 use Rattle.lt_crew.proofs.Prints.{skipped}
-use Rattle.lt_merge.proofs.places.place_of.Goals as goal
+use Rattle.lt_crew.proofs.settling.first_known.Goals as goal
 
 pub returns-in-None-clause-none : goal.returns-in-None-clause-none
 returns-in-None-clause-none c =
