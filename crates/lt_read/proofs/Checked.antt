@@ -82,7 +82,7 @@ module _ (version : ℕ) (p : Parsed) (xs : List Entry) (h : AreAllBuilt version
       omega (arith, f, few)
 
   pub refused_cross : (k f : ℕ) → IsFirstWrong p.d bs mss (k, f) → IsRefused version p.d es (BadCross k f)
-  refused_cross = crossed.refused_cross p.d es bs mss h.built marks whole lists
+  refused_cross = crossed.refused_cross version p.d es bs mss h.built marks whole lists
 
   -- ---- fingerprints
 
@@ -101,7 +101,7 @@ module _ (version : ℕ) (p : Parsed) (xs : List Entry) (h : AreAllBuilt version
 
   module _ (right : AreAllRight p.d bs mss) where
     pub refused_twin : (i j : ℕ) (u : List ℤ) → IsFirstTwin p.d bs i j u → IsRefused version p.d es (Twin i j u)
-    refused_twin i j u w = paired.refused_twin p.d es bs mss h.built marks h.sound whole i j u (crossed.all_crossed p.d es bs mss h.built marks whole lists right) w
+    refused_twin i j u w = paired.refused_twin version p.d es bs mss h.built marks h.sound whole i j u (crossed.all_crossed version p.d es bs mss h.built marks whole lists right) w
 
     -- and no entry is equivalent to another
     pub right_atlas : ((i : ℕ) → i < length xs → HasNoTwin p.d bs i) → AreRight (IsAcross p.d) p.d bs (map (map kept_mark) mss)

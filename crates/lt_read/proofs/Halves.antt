@@ -1,5 +1,5 @@
 -- The classes that a text lists tell the triangulation.
-use Rattle.std.proofs.Common.{◌≡◌, ℕ, ◌<◌, ◌≤◌, ℤ, Bool, true, false, cond, inl, inr, sym, ap, ap₂, ◌∙◌, subst, arith, List, [], ◌∷◌, map, length}
+use Rattle.std.proofs.Common.{◌≡◌, ℕ, ◌<◌, ◌≤◌, ℤ, Bool, true, false, cond, refl, inl, inr, sym, ap, ap₂, ◌∙◌, subst, arith, List, [], ◌∷◌, map, length}
 use Rattle.std.specs.Prelude.{nat_eq}
 use Rattle.std.specs.List.{Contains}
 use Rattle.lt_model.specs.Flat.{first_rows, flat}

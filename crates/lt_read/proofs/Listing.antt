@@ -52,7 +52,7 @@ module _ (version : ℕ) (t : Classes) (cs : List (List ℤ)) (i place : ℕ) (w
           let a = length_push before s in
           let p : place < length (before ++ (s ∷ [])) = omega (arith, a, long) in
           let b = length-append (before ++ (s ∷ [])) behind in
-          let here : get_or ((before ++ (s ∷ [])) ++ behind) place [] ≡ s = get_or_append_left (before ++ (s ∷ [])) behind [] place p ∙ get_or_push before s [] place (sym long) in
+          let here : get_or ((before ++ (s ∷ [])) ++ behind) place [] ≡ s = get_or_append_left (before ++ (s ∷ [])) behind [] place p ∙ get_or_push before s [] place long in
           sym (ap class_numbers here) ∙ sym (get_or-map class_numbers ((before ++ (s ∷ [])) ++ behind) place [] [] (omega (arith, p, b))) ∙ ap (λ (l : Classes). get_or (map class_numbers l) place []) all_listed ∙ ap (λ (l : List (List ℤ)). get_or l place []) h
 
       pub one_more : place < length cs → class_numbers s ≡ get_or cs place [] → map class_numbers (filter (is_listed version) (take (i + 1) t)) ≡ take (place + 1) cs

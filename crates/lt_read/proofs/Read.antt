@@ -1,5 +1,5 @@
 -- Bytes that are read as a right atlas aren't refused, and are read as one alone.
-use Rattle.std.proofs.Common.{◌≡◌, ℕ, ℤ, ◌<◌, ◌≤◌, refl, sym, ap, ap₂, ◌∙◌, subst, arith, List, [], ◌∷◌, map, length, Option, lit<}
+use Rattle.std.proofs.Common.{◌≡◌, ℕ, ℤ, ◌^◌, inl, inr, ◌<◌, ◌≤◌, refl, sym, ap, ap₂, ◌∙◌, subst, arith, List, [], ◌∷◌, map, length, Option, lit<}
 use Rattle.std.proofs.lemmas.List.{same_lists, get_or_default}
 use Rattle.lt_model.specs.Cones.{Cone}
 use Rattle.lt_model.specs.Flat.{first_rows, flat}

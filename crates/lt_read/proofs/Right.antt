@@ -138,4 +138,4 @@ right_parts version d t bs mss fits size built sound marks whole lists h g =
     let low = fits.0.0 in
     let high = fits.0.1 in
     let some = fits.1.0.0 in
-    parts d t.entries bs mss (omega (arith, size, low)) (omega (arith, size, high)) (subst (λ (n : ℕ). EntriesFit n 0 t.entries) size fits.1.1) built sound marks whole lists (omega (arith, whole, some)) h g
+    parts version d t.entries bs mss (omega (arith, size, low)) (omega (arith, size, high)) (subst (λ (n : ℕ). EntriesFit n 0 t.entries) size fits.1.1) built sound marks whole lists (omega (arith, whole, some)) h g

@@ -93,4 +93,4 @@ of-requires-clause-settled c =
 pub returns-clause-atlas : goal.returns-clause-atlas
 returns-clause-atlas c =
     let h = built_here (goal.at.returns-clause-atlas c).In_ok-entries in
-    read_atlas c.args.version c.args.parsed c.in_ok-entries.entries.items h c.in_ok-of.field-0 (rw c.in_ok-marks.ensures at c.in_ok-of.ensures)
+    read_atlas c.args.version c.args.parsed c.in_ok-entries.entries.items h c.in_ok-atlas.atlas (rw c.in_ok-marks.ensures at c.in_ok-atlas.ensures)
