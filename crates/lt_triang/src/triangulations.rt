@@ -54,6 +54,7 @@ fn sorted_distinct(given: Vec<Class>) -> Vec<Class>
     let mut classes = given;
     classes.sort_unstable();
     classes.dedup();
+    classes.shrink_to_fit();
     classes
 }
 
@@ -69,7 +70,10 @@ fn dimension_of(classes: &[Class]) -> usize
 fn classes_copy(alloc: Global, given: &[Class]) -> Result<Vec<Class>, Memory>
     ensures { IfOk result (λ classes. classes.items ≡ given.now) }
 {
-    let mut classes = Vec::new(alloc);
+    let mut classes = match Vec::with_capacity(alloc, given.len()) {
+        Ok(classes) => classes,
+        Err(_) => return Err(Memory),
+    };
     for class in given {
         match classes.push(class.copy()) {
             Ok(()) => {}
