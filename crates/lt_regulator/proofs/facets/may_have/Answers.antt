@@ -22,5 +22,5 @@ pub returns : goal.returns
 returns c other r =
     let t = c.args.t.now in
     let e = dimension_is c.dimension-dimension.result t c.dimension-dimension.ensures in
-    let m = multiple_of (dimension_of t) c.requires.delaunay.0 t (get_or t c.args.class []) c.args.facet c.outer-outer.result.now.vertex c.outer-outer.result.now.expression.scale c.outer-outer.result.now.expression.coefficients.items _ c.requires.delaunay.1 (Contains-get_or t c.args.class [] c.requires.class) (facet_place c.dimension-dimension.result t c.args.class c.args.facet c.dimension-dimension.ensures c.requires.class c.requires.facet) c.outer-outer.ensures.vertex c.outer-outer.ensures.expression r in
+    let m = multiple_of (dimension_of t) c.requires.delaunay.0 t (get_or t c.args.class []) c.args.facet c.outer-outer.result.vertex c.outer-outer.result.expression.scale c.outer-outer.result.expression.coefficients.items _ c.requires.delaunay.1 (Contains-get_or t c.args.class [] c.requires.class) (facet_place c.dimension-dimension.result t c.args.class c.args.facet c.dimension-dimension.ensures c.requires.class c.requires.facet) c.outer-outer.ensures.vertex c.outer-outer.ensures.expression r in
     c.signs_agree.ensures other m.0 m.1 (rw (c.vertices.ensures, c.class-simplex.ensures, c.numbers.ensures.value) m.2)

@@ -15,9 +15,9 @@ returns c =
     let s : c.vertices.result.now ≡ get_or c.args.t.now c.args.class [] = c.vertices.ensures ∙ c.class-simplex.ensures in
     record {
       value = record {
-        vertex = c.outer-outer.result.now.vertex;
-        c = c.outer-outer.result.now.expression.scale;
-        b = c.outer-outer.result.now.expression.coefficients.items;
+        vertex = c.outer-outer.result.vertex;
+        c = c.outer-outer.result.expression.scale;
+        b = c.outer-outer.result.expression.coefficients.items;
         outer = c.outer-outer.ensures.vertex;
         expression = c.outer-outer.ensures.expression;
         value = rw s at c.excess_of.ensures.value;
