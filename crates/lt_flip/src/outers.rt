@@ -47,8 +47,8 @@ pub fn outer_of(t: &Triangulation, class: usize, normal: &Normal) -> Option<Oute
         Some(facet) => {
             let outer = t.outer(class, facet);
             Some(Outer {
-                vertex: outer.vertex.copy(),
-                expression: outer.expression.copy(),
+                vertex: outer.vertex,
+                expression: outer.expression,
             })
         }
         None => None,

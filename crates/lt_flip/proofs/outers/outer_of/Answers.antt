@@ -14,8 +14,8 @@ returns-in-Some c =
     let d : c.dimension-dimension.result ≡ dimension_of t = dimension_is c.dimension-dimension.result t c.dimension-dimension.ensures in
     let h : IsTriangulation (dimension_of t) t = subst (λ n. IsTriangulation n t) d c.dimension-dimension.ensures in
     let o = c.outer-outer in
-    let n : IsNearOuter (dimension_of t) s o.result.now.vertex = outer_near (dimension_of t) t s c.in-Some.facet o.result.now.vertex h ms c.in-Some.ensures.0 o.ensures.vertex in
-    rw (c.copy.ensures, c.copy-in-Some.ensures) (record {
+    let n : IsNearOuter (dimension_of t) s o.result.vertex = outer_near (dimension_of t) t s c.in-Some.facet o.result.vertex h ms c.in-Some.ensures.0 o.ensures.vertex in
+    record {
       facet = c.in-Some.facet;
       place = c.in-Some.ensures.0;
       regulator = c.in-Some.ensures.1;
@@ -23,4 +23,4 @@ returns-in-Some c =
       dimension = n.dimension;
       near = n.near;
       expression = o.ensures.expression;
-    })
+    }
