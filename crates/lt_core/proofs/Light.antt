@@ -8,8 +8,6 @@ use Rattle.std.proofs.lemmas.Bool.{cases_lt, leb-true}
 use Rattle.lt_model.specs.Vectors.{dot}
 use Rattle.lt_model.specs.Forms.{numbers_of_form}
 use Rattle.lt_model.specs.Limits.{put, descending, product, weight, weight_limit}
-use Rattle.lt_model.specs.Walls.{AreRegulators}
-use Rattle.lt_model.specs.Principal.{IsPrincipal}
 use Rattle.lt_model.proofs.Sets.{Contains-head, Contains-tail}
 use Rattle.lt_geometry.specs.Principal.{pair_normal, own_normal, IsPrincipalNormal}
 use Rattle.lt_geometry.proofs.PrincipalNormals.{principal_regulators}

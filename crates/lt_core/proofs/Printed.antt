@@ -1,6 +1,6 @@
 -- The fingerprints that an atlas keeps are those of its entries, and say which entries have a fingerprint.
-use Rattle.std.proofs.Common.{◌≡◌, ℕ, ℤ, suc, refl, ◌<◌, ◌≤◌, ap, arith, sym, ◌∙◌, subst, List, [], ◌∷◌, ◌++◌, length, get_or, map, Vec}
-use Rattle.std.proofs.lemmas.List.{get_or-map, get_or_append_left, get_or_push, length-map, map-append}
+use Rattle.std.proofs.Common.{◌≡◌, ℕ, ℤ, suc, refl, ◌<◌, ◌≤◌, ap, arith, sym, ◌∙◌, subst, List, [], ◌∷◌, ◌++◌, length, get_or, map}
+use Rattle.std.proofs.lemmas.List.{get_or-map, get_or_default, get_or_append_left, get_or_push, length-map, map-append}
 use Rattle.lt_model.specs.Walls.{IsAcross}
 use Rattle.lt_model.specs.Atlases as model
 use Rattle.lt_model.specs.RightAtlases.{AreRight}
@@ -12,7 +12,7 @@ use Rattle.lt_colour.proofs.Numbers.{each_more}
 use Rattle.lt_core.specs.declared.marks.Entry.{Entry}
 use Rattle.lt_core.specs.declared.atlas.Atlas.TheInside.{Inside}
 use Rattle.lt_core.specs.Marks.{entry_of}
-use Rattle.lt_core.specs.Prints.{ArePrints, lists_of}
+use Rattle.lt_core.specs.Prints.{ArePrints}
 use Rattle.lt_core.specs.Meaning.{value_of, KeepsAtlas}
 use Rattle.lt_core.proofs.Undo.{length_more}
 use Rattle.lt_core.proofs.Crossings.{HasForm, across_laws}
@@ -58,18 +58,14 @@ prints_more d es ps e p g h = record {
       k (let n = length_more es e in omega (arith, l, n));
 }
 
-module _ {Z : Type 0} where
-  pub lists_more : (ps qs : List (Vec ℤ Z)) (p : Vec ℤ Z) → qs ≡ ps ++ p ∷ [] → lists_of qs ≡ lists_of ps ++ p.items ∷ []
-  lists_more ps qs p e = ap lists_of e ∙ map-append (λ (v : Vec ℤ Z). v.items) ps (p ∷ [])
+pub prints_extended : (d : ℕ) (xs ys : List Entry) (x : Entry) (ps qs : List (List ℤ)) (p : List ℤ) → ys ≡ xs ++ x ∷ [] → qs ≡ ps ++ p ∷ [] → ArePrints d (map entry_of xs) ps → IsFingerprint d x.triangulation p → ArePrints d (map entry_of ys) qs
+prints_extended d xs ys x ps qs p ey eq g h =
+    subst (λ (zs : List model.Entry). ArePrints d zs qs) (sym (ap (map entry_of) ey ∙ map-append entry_of xs (x ∷ [])))
+    (subst (λ (rs : List (List ℤ)). ArePrints d (map entry_of xs ++ entry_of x ∷ []) rs) (sym eq)
+    (prints_more d (map entry_of xs) ps (entry_of x) p g h))
 
-  pub prints_extended : (d : ℕ) (xs ys : List Entry) (x : Entry) (ps qs : List (Vec ℤ Z)) (p : Vec ℤ Z) → ys ≡ xs ++ x ∷ [] → qs ≡ ps ++ p ∷ [] → ArePrints d (map entry_of xs) (lists_of ps) → IsFingerprint d x.triangulation p.items → ArePrints d (map entry_of ys) (lists_of qs)
-  prints_extended d xs ys x ps qs p ey eq g h =
-      subst (λ (zs : List model.Entry). ArePrints d zs (lists_of qs)) (sym (ap (map entry_of) ey ∙ map-append entry_of xs (x ∷ [])))
-      (subst (λ (rs : List (List ℤ)). ArePrints d (map entry_of xs ++ entry_of x ∷ []) rs) (sym (lists_more ps qs p eq))
-      (prints_more d (map entry_of xs) (lists_of ps) (entry_of x) p.items g h))
-
-  pub print_read : (ps : List (Vec ℤ Z)) (k : ℕ) (r : Vec ℤ Z) → k < length ps → r ≡ get_or ps k r → get_or (lists_of ps) k [] ≡ r.items
-  print_read ps k r h e = get_or-map (λ (v : Vec ℤ Z). v.items) ps k r [] h ∙ ap (λ (v : Vec ℤ Z). v.items) (sym e)
+pub print_read : (ps : List (List ℤ)) (k : ℕ) (r : List ℤ) → k < length ps → r ≡ get_or ps k r → get_or ps k [] ≡ r
+print_read ps k r h e = get_or_default ps k [] r h ∙ sym e
 
 pub entry_read : (xs : List Entry) (k : ℕ) (x : Entry) → k < length xs → x ≡ get_or xs k x → entry_of x ≡ model.entry_at (map entry_of xs) k
 entry_read xs k x h e = ap entry_of e ∙ sym (get_or-map entry_of xs k x model.no_entry h)
@@ -81,17 +77,17 @@ module _ (i : Inside) (inv : KeepsAtlas i) (b : model.Atlas) (hb : value_of i �
   within = subst (λ (z : model.Atlas). k < length z.entries) (sym hb) l
 
   pub print_within : k < length i.prints.items
-  print_within = let n = inv.prints.count in let m = length-map i.prints.items (λ v. v.items) in let s = within in omega (arith, n, m, s)
+  print_within = let n = inv.prints.count in let s = within in omega (arith, n, s)
 
   module _ (print : List ℤ) where
-    pub print_is : get_or (lists_of i.prints.items) k [] ≡ print → IsFingerprint b.dimension (model.entry_at b.entries k).triangulation print
+    pub print_is : get_or i.prints.items k [] ≡ print → IsFingerprint b.dimension (model.entry_at b.entries k).triangulation print
     print_is e =
         subst (λ (z : model.Atlas). IsFingerprint z.dimension (model.entry_at z.entries k).triangulation print) hb
         (subst (λ (p : List ℤ). IsFingerprint i.dimension (model.entry_at (map entry_of i.entries.items) k).triangulation p) e (inv.prints.each k within))
 
-    pub is_print : IsFingerprint b.dimension (model.entry_at b.entries k).triangulation print → get_or (lists_of i.prints.items) k [] ≡ print
+    pub is_print : IsFingerprint b.dimension (model.entry_at b.entries k).triangulation print → get_or i.prints.items k [] ≡ print
     is_print p =
         let h : AreRight (IsAcross i.dimension) i.dimension (value_of i).entries (value_of i).marks = inv.sound.kept.right.parts in
         let f = entry_form (IsAcross i.dimension) i.dimension (across_laws i.dimension inv.sound.low) (value_of i).entries (value_of i).marks h k within in
         let here : IsFingerprint i.dimension (model.entry_at (value_of i).entries k).triangulation print = subst (λ (z : model.Atlas). IsFingerprint z.dimension (model.entry_at z.entries k).triangulation print) (sym hb) p in
-        one_fingerprint i.dimension f.0 (model.entry_at (value_of i).entries k).triangulation (get_or (lists_of i.prints.items) k []) print f.1 (inv.prints.each k within) here
+        one_fingerprint i.dimension f.0 (model.entry_at (value_of i).entries k).triangulation (get_or i.prints.items k []) print f.1 (inv.prints.each k within) here

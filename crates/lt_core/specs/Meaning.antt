@@ -3,7 +3,7 @@ use Rattle.std.specs.Prelude.{map, vec_capacity}
 use Rattle.lt_model.specs.Atlases as model
 use Rattle.lt_core.specs.declared.atlas.Atlas.TheInside.{Inside}
 use Rattle.lt_core.specs.Marks.{marks_of, event_of, entry_of}
-use Rattle.lt_core.specs.Prints.{ArePrints, lists_of}
+use Rattle.lt_core.specs.Prints.{ArePrints}
 use Rattle.lt_core.specs.Sound.{IsSound}
 
 -- what the fields mean
@@ -22,4 +22,4 @@ IsSoundInside a = IsSound (value_of a) a.undecided a.stuck (vec_capacity a.log)
 -- its value is sound, and the fingerprints are those of the entries
 pub record KeepsAtlas (a : Inside) : Type 0 where
   pub sound : IsSoundInside a
-  pub prints : ArePrints a.dimension (map entry_of a.entries.items) (lists_of a.prints.items)
+  pub prints : ArePrints a.dimension (map entry_of a.entries.items) a.prints.items

@@ -15,7 +15,7 @@ use crate::beginnings::{all_stand, fresh_count, places_before, same_entries, sam
 use crate::copying::{entries_copy, log_copy, marks_copy, prints_copy, queue_copy};
 use crate::lists::{append_places, make_room, open_queue, opens_of, push_within, put};
 use crate::marks::{Entry, Event, Mark};
-use crate::prints::{print_of, prints_of};
+use crate::prints::{Print, digest, print_of, prints_of};
 use crate::refusals::{Already, Back, Missed, Why};
 use lt_lattice::Matrix;
 use lt_lp::Cone;
@@ -29,7 +29,7 @@ pub struct Atlas {
     dimension: u8,
     entries: Vec<Entry>,
     marks: Vec<Vec<Mark>>,
-    prints: Vec<Vec<i128>>,
+    prints: Vec<Print>,
     queue: Vec<(u32, u32)>,
     log: Vec<Event>,
     undecided: usize,
@@ -356,8 +356,9 @@ impl Atlas {
         ensures before { IfSome result (λ k. (i : ℕ) → from ≤ i → i < k → IsFingerprint self.now.dimension (entry_at self.now.entries i).triangulation print.now → ⊥) }
         ensures none { IfNone result ((i : ℕ) → from ≤ i → i < length self.now.entries → IsFingerprint self.now.dimension (entry_at self.now.entries i).triangulation print.now → ⊥) }
     {
+        let digest = digest(print);
         for k in from..self.entries() {
-            if self.prints[k as usize].as_slice() == print {
+            if self.prints[k as usize].has_numbers(digest, print) {
                 return Some(k);
             }
         }

@@ -2,9 +2,9 @@
 
 ghost use Rattle.std.specs.Prelude.{◌≡◌, ◌≤◌, ◌+◌, IfOk, length, map, vec_len, vec_capacity};
 ghost use Rattle.lt_core.specs.Marks.{mark_of, marks_of, event_of, entry_of};
-ghost use Rattle.lt_core.specs.Prints.{lists_of};
 
 use crate::marks::{Entry, Event, Mark};
+use crate::prints::Print;
 use std::alloc::{AllocError, Global};
 
 impl Entry {
@@ -69,24 +69,13 @@ pub fn marks_copy(alloc: Global, marks: &[Vec<Mark>]) -> Result<Vec<Vec<Mark>>, 
     Ok(all)
 }
 
-/// A copy of a fingerprint.
-fn print_copy(alloc: Global, print: &[i128]) -> Result<Vec<i128>, AllocError>
-    ensures { IfOk result (λ v. v.items ≡ print.now) }
-{
-    let mut all = Vec::new(alloc);
-    for number in print {
-        all.push(*number)?;
-    }
-    Ok(all)
-}
-
 /// Copies of the fingerprints.
-pub fn prints_copy(alloc: Global, prints: &[Vec<i128>]) -> Result<Vec<Vec<i128>>, AllocError>
-    ensures { IfOk result (λ v. lists_of v.items ≡ lists_of prints.now) }
+pub fn prints_copy(alloc: Global, prints: &[Print]) -> Result<Vec<Print>, AllocError>
+    ensures { IfOk result (λ v. v.items ≡ prints.now) }
 {
     let mut all = Vec::new(alloc);
     for print in prints {
-        all.push(print_copy(alloc, print)?)?;
+        all.push(print.try_copy()?)?;
     }
     Ok(all)
 }

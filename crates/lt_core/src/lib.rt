@@ -15,7 +15,7 @@ mod refusals;
 pub use atlas::Atlas;
 pub use first::principal_types_are_light;
 pub use marks::{Entry, Event, Mark};
-pub use prints::prints_of;
+pub use prints::{Print, prints_of};
 pub use refusals::{Already, Back, Missed, Why};
 
 /// Facet crossings reach each entry of an atlas from the first one; and where all facets are crossed, each triangulation

@@ -7,6 +7,7 @@ ghost use Rattle.lt_model.specs.RightAtlases.{open_in, open_places};
 ghost use Rattle.lt_core.specs.Marks.{mark_of, marks_of};
 
 use crate::marks::{Entry, Event, Mark};
+use crate::prints::Print;
 use std::alloc::{AllocError, Global};
 
 /// Writes a mark.
@@ -85,7 +86,7 @@ pub fn open_queue(alloc: Global, marks: &[Vec<Mark>]) -> Result<Vec<(u32, u32)>,
 pub fn make_room(
     entries: &mut Vec<Entry>,
     marks: &mut Vec<Vec<Mark>>,
-    prints: &mut Vec<Vec<i128>>,
+    prints: &mut Vec<Print>,
     queue: &mut Vec<(u32, u32)>,
     log: &mut Vec<Event>,
     facets: usize,

@@ -4,13 +4,12 @@ use Rattle.lt_triang.specs.Kept.{dimension_of, IsOfSomeForm}
 use Rattle.lt_colour.specs.Signatures.{IsFingerprint}
 use Rattle.lt_colour.proofs.Numbers.{each_more}
 use Rattle.lt_core.specs.Marks.{entry_of}
-use Rattle.lt_core.specs.Prints.{lists_of}
 use Rattle.lt_core.proofs.Undo.{length_more}
-use Rattle.lt_core.proofs.Printed.{entry_read, lists_more}
+use Rattle.lt_core.proofs.Printed.{entry_read}
 use Rattle.lt_core.proofs.prints.prints_of.Goals as goal
 
 pub loop-entry-init : goal.loop-entry-init
-loop-entry-init c = record { count = ap (λ l. length (lists_of l)) c.new-all.ensures.items; each = λ k l. absurd (omega (arith, l)) }
+loop-entry-init c = record { count = ap length c.new-all.ensures.items; each = λ k l. absurd (omega (arith, l)) }
 
 pub print_of-requires : goal.print_of-requires
 print_of-requires c =
@@ -21,10 +20,10 @@ pub loop-entry-preserved : goal.loop-entry-preserved
 loop-entry-preserved c =
     let es = map entry_of c.args.entries.now in
     let k = c.loop-entry.entry-index in
-    let p = c.in_ok-print_of.field-0.items in
-    let ps = lists_of c.loop-entry.all.items in
+    let p = c.in_ok-print_of.field-0 in
+    let ps = c.loop-entry.all.items in
     let e = entry_read c.args.entries.now k c.entry-item.result c.loop-entry-test.true c.entry-item.is in
-    let s = lists_more c.loop-entry.all.items c.push.new.self.items c.in_ok-print_of.field-0 c.in_ok-push.ensures.items in
+    let s = c.in_ok-push.ensures.items in
     let m = length_more ps p in
     let it : IsFingerprint (dimension_of (entry_at es k).triangulation) (entry_at es k).triangulation p = subst (λ (z : Entry). IsFingerprint (dimension_of z.triangulation) z.triangulation p) e c.in_ok-print_of.ensures in
     record {

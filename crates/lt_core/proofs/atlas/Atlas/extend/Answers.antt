@@ -80,7 +80,7 @@ invariant_of-self-2 c =
           (c.push_within.ensures.items ∙ (let e : Entry = record { triangulation = t; cone = c.args.cone; origin = Some c.index.result.now } in ap (λ l. l ++ e ∷ []) c.make_room.ensures.entries.0))
           (c.push_within-3.ensures.items ∙ ap (λ l. l ++ c.in-Ok.print ∷ []) c.make_room.ensures.prints.0)
           c.self.invariant.prints
-          (subst (λ (n : ℕ). IsFingerprint n t c.in-Ok.print.items) (sym d) (form_print c.args.self.now.dimension t c.in-Ok.print.items form c.in-Ok.ensures));
+          (subst (λ (n : ℕ). IsFingerprint n t c.in-Ok.print) (sym d) (form_print c.args.self.now.dimension t c.in-Ok.print form c.in-Ok.ensures));
     }
 
 pub returns-clause-ok : goal.returns-clause-ok

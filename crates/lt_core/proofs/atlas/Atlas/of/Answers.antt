@@ -5,7 +5,6 @@ use Rattle.lt_model.specs.RightAtlases.{open_places}
 use Rattle.lt_core.specs.declared.atlas.Atlas.TheInside.{Inside}
 use Rattle.lt_core.specs.Marks.{mark_of, entry_of, marks_of}
 use Rattle.lt_core.specs.Sound.{IsSound}
-use Rattle.lt_core.specs.Prints.{lists_of}
 use Rattle.lt_core.proofs.Printed.{some_forms, made_prints}
 use Rattle.lt_core.proofs.FewFacets.{few_marks}
 use Rattle.lt_core.proofs.Sounds.{sound_fresh, value_fresh}
@@ -39,7 +38,7 @@ invariant_of-result c =
       sound =
           subst (λ (z : model.Atlas). IsSound z c.len-undecided.result 0 (vec_capacity c.reserve.new.self)) (sym (value_fresh i hq hl))
           (sound_fresh c.args.dimension (map entry_of c.args.entries.items) (marks_of c.args.marks.items) c.len-undecided.result (vec_capacity c.reserve.new.self) (c.requires.settled) c.requires.low c.requires.high c.requires.right few long room);
-      prints = made_prints c.args.dimension c.requires.low c.args.entries.items (marks_of c.args.marks.items) c.requires.right c.deref.result.now c.deref.ensures.value (lists_of c.in_ok-prints.prints.items) c.in_ok-prints.ensures.count c.in_ok-prints.ensures.each;
+      prints = made_prints c.args.dimension c.requires.low c.args.entries.items (marks_of c.args.marks.items) c.requires.right c.deref.result.now c.deref.ensures.value c.in_ok-prints.prints.items c.in_ok-prints.ensures.count c.in_ok-prints.ensures.each;
     }
 
 pub returns : goal.returns
