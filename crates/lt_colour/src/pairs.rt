@@ -1,9 +1,8 @@
 //! Signatures of pairs: of a class and its neighbour at a facet.
 
-ghost use Rattle.std.specs.Prelude.{◌≡◌, ◌<◌, ◌≤◌, ◌^◌, ◌∷◌, [], length, get_or, nat_abs};
+ghost use Rattle.std.specs.Prelude.{◌≡◌, ◌<◌, ◌≤◌, [], length, get_or};
 ghost use Rattle.std.specs.List.Sorted.{IsPermutation, IsSorted};
 ghost use Rattle.std.specs.Ordering.{int_cmp};
-ghost use Rattle.lt_model.specs.Cones.{AreBelow};
 ghost use Rattle.lt_model.specs.Facets.{without};
 ghost use Rattle.lt_triang.specs.Kept.{dimension_of};
 ghost use Rattle.lt_colour.specs.Signatures.{IsInOrder, AreNumbersFrom, IsPairSignature};
@@ -98,24 +97,15 @@ impl Default for ShortSignature {
     }
 }
 
-/// The number in 64 bits.
-fn word(x: i128) -> i64
-    requires { nat_abs x < 2 ^ 59 }
-    ensures { result ≡ x }
-{
-    x as i64
-}
-
 /// The numbers but that at place `i`.
-fn others(numbers: &[i128], i: usize) -> ArrayVec<i64, 7>
+fn others(numbers: &[i64], i: usize) -> ArrayVec<i64, 7>
     requires few { length numbers.now ≤ 7 }
     requires place { i < length numbers.now }
-    requires below { AreBelow (2 ^ 59) numbers.now }
     ensures { result.items ≡ without i numbers.now }
 {
     let mut all: ArrayVec<i64, 7> = ArrayVec::new();
     for number in numbers {
-        all.push(word(*number));
+        all.push(*number);
     }
     let _removed = all.remove(i);
     all
@@ -130,17 +120,16 @@ fn sort(numbers: &mut [i64])
 }
 
 /// The signature that the numbers of an expression make.
-fn signature_from(scale: i128, coefficients: &[i128], facet: usize) -> ShortSignature
+fn signature_from(scale: i64, coefficients: &[i64], facet: usize) -> ShortSignature
     requires few { length coefficients.now ≤ 7 }
     requires place { facet < length coefficients.now }
-    requires below { AreBelow (2 ^ 59) (scale ∷ coefficients.now) }
     ensures { AreNumbersFrom facet scale coefficients.now result }
 {
     let mut rest = others(coefficients, facet);
     sort(rest.as_mut_slice());
     let mut numbers: ArrayVec<i64, 8> = ArrayVec::new();
-    numbers.push(word(scale));
-    numbers.push(word(coefficients[facet]));
+    numbers.push(scale);
+    numbers.push(coefficients[facet]);
     for number in rest.as_slice() {
         numbers.push(*number);
     }
@@ -154,9 +143,9 @@ pub fn short_signature(t: &Triangulation, class: usize, facet: usize) -> ShortSi
     ensures { IsPairSignature (dimension_of t.now) t.now (get_or t.now class []) facet result }
 {
     let _dimension = t.dimension();
-    let outer = t.outer(class, facet);
-    let expression = &outer.expression;
-    signature_from(expression.scale, expression.coefficients.as_slice(), facet)
+    let numbers = t.outer_numbers(class, facet);
+    let all = numbers.as_slice();
+    signature_from(all[0], &all[1..], facet)
 }
 
 /// The signature of the class at place `class` and its neighbour at facet `facet`.

@@ -24,7 +24,10 @@ pub fn rows_of(alloc: Global, normals: &[Normal]) -> Result<Vec<Row>, LpError>
     ensures heavy { IfErr result (λ e. (d : ℕ) → AreOfDimension d normals.now → IsHeavyLp (weight d normals.now) e) }
 {
     weigh(normals)?;
-    let mut rows: Vec<Row> = Vec::new(alloc);
+    let mut rows: Vec<Row> = match Vec::with_capacity(alloc, normals.len()) {
+        Ok(rows) => rows,
+        Err(_) => return Err(LpError::Memory),
+    };
     for k in 0..normals.len() {
         match decide_light(alloc, normals, k) {
             Ok(verdict) => {

@@ -1,8 +1,9 @@
 -- The code of a facet is that of its translates, and codes fit in 64 bits.
-use Rattle.std.proofs.Common.{◌≡◌, ℕ, zero, suc, ℤ, pos, ◌+ℤ◌, ◌-ℤ◌, ◌*ℤ◌, ◌<◌, ◌≤◌, ◌+◌, ◌*◌, ◌^◌, ◌%◌, refl, ap, arith, sym, ◌∙◌, List, [], ◌∷◌, length, map, get_or, drop, nat_abs, inl, inr}
+use Rattle.std.proofs.Common.{◌≡◌, ℕ, zero, suc, ℤ, pos, ◌+ℤ◌, ◌-ℤ◌, ◌*ℤ◌, ◌<◌, ◌≤◌, ◌+◌, ◌*◌, ◌^◌, ◌%◌, refl, ap, add-one, arith, sym, ◌∙◌, subst, List, [], ◌∷◌, length, map, get_or, drop, nat_abs, inl, inr}
 use Rattle.std.proofs.lemmas.Int.{ints}
 use Rattle.std.proofs.Math.Nat.{eq-or-lt_of_le}
 use Rattle.std.proofs.lemmas.List.{drop_more, drop_all, get_or-map, length-map}
+use Rattle.std.proofs.lemmas.Bool.{cases_lt}
 use mir.Val.{SFits}
 use mir.Syntax.{w64}
 use Rattle.lt_model.specs.Vectors.{plus}
@@ -11,7 +12,7 @@ use Rattle.lt_model.specs.Simplices.{AllOfDimension, translate}
 use Rattle.lt_model.proofs.Translates.{without-translate}
 use Rattle.lt_model.proofs.Dependent.{all_without}
 use Rattle.lt_triang.specs.Across.{IsFacing}
-use Rattle.lt_triang.specs.Codes.{coordinate_digits, point_code, point_digits, code_differences, facet_code, bucket_of}
+use Rattle.lt_triang.specs.Codes.{coordinate_digits, point_code, point_digits, digits_of, facet_code, bucket_of}
 
 digits-plus : (h k : ℤ) (x y : List ℤ) → length x ≡ length y → coordinate_digits (h +ℤ k) (plus x y) ≡ coordinate_digits h x +ℤ coordinate_digits k y
 digits-plus h k [] [] l = refl
@@ -116,16 +117,62 @@ pub next_coordinate : (h y c : ℤ) (xs : List ℤ) (k : ℕ) → k < length xs 
 next_coordinate h y c xs k l e so_far =
     ap (λ n. coordinate_digits (pos 31 *ℤ h +ℤ n) (drop (k + 1) xs)) e ∙ sym (ap (coordinate_digits h) (drop_more xs k (pos 0) l)) ∙ so_far
 
-pub next_point : (h y c : ℤ) (vs : List (List ℤ)) (k : ℕ) → k < length vs → y ≡ point_code (get_or vs k []) -ℤ point_code (get_or vs 0 []) → point_digits h (drop k (code_differences vs)) ≡ c →
-    point_digits (pos 7 *ℤ h +ℤ y) (drop (k + 1) (code_differences vs)) ≡ c
+-- ---- the codes of the points tell those of the facets
+
+map-without : (f : List ℤ → ℤ) (i : ℕ) (vs : List (List ℤ)) → without i (map f vs) ≡ map f (without i vs)
+map-without f i [] = refl
+map-without f zero (v ∷ vs) = refl
+map-without f (suc i) (v ∷ vs) = ap (λ l. f v ∷ l) (map-without f i vs)
+
+map-twice : (g : ℤ → ℤ) (f : List ℤ → ℤ) (vs : List (List ℤ)) → map g (map f vs) ≡ map (λ v. g (f v)) vs
+map-twice g f [] = refl
+map-twice g f (v ∷ vs) = ap (λ l. g (f v) ∷ l) (map-twice g f vs)
+
+digits_same : (vs : List (List ℤ)) → digits_of (map point_code vs) ≡ facet_code vs
+digits_same [] = refl
+digits_same (v ∷ vs) = ap (point_digits (pos 0)) (map-twice (λ x. x -ℤ point_code v) point_code (v ∷ vs))
+
+pub facet_digits : (i : ℕ) (vs : List (List ℤ)) → digits_of (without i (map point_code vs)) ≡ facet_code (without i vs)
+facet_digits i vs = ap digits_of (map-without point_code i vs) ∙ digits_same (without i vs)
+
+pub next_point : (h y c : ℤ) (vs : List ℤ) (k : ℕ) → k < length vs → y ≡ get_or vs k (pos 0) -ℤ get_or vs 0 (pos 0) → point_digits h (drop k (map (λ x. x -ℤ get_or vs 0 (pos 0)) vs)) ≡ c →
+    point_digits (pos 7 *ℤ h +ℤ y) (drop (k + 1) (map (λ x. x -ℤ get_or vs 0 (pos 0)) vs)) ≡ c
 next_point h y c vs k l e so_far =
-    let f : List ℤ → ℤ = λ v. point_code v -ℤ point_code (get_or vs 0 []) in
-    let xs : List ℤ = code_differences vs in
-    let there : get_or xs k (pos 0) ≡ point_code (get_or vs k []) -ℤ point_code (get_or vs 0 []) = get_or-map f vs k [] (pos 0) l in
+    let f : ℤ → ℤ = λ x. x -ℤ get_or vs 0 (pos 0) in
+    let xs : List ℤ = map f vs in
+    let there : get_or xs k (pos 0) ≡ get_or vs k (pos 0) -ℤ get_or vs 0 (pos 0) = get_or-map f vs k (pos 0) (pos 0) l in
     let count : k < length xs = omega (arith, l, length-map vs f) in
     ap (λ n. point_digits (pos 7 *ℤ h +ℤ n) (drop (k + 1) xs)) (e ∙ sym there) ∙ sym (ap (point_digits h) (drop_more xs k (pos 0) count)) ∙ so_far
 
-pub last_point : (h c : ℤ) (vs : List (List ℤ)) (k : ℕ) → length vs ≤ k → point_digits h (drop k (code_differences vs)) ≡ c → h ≡ c
+pub last_point : (h c : ℤ) (vs : List ℤ) (k : ℕ) → length vs ≤ k → point_digits h (drop k (map (λ x. x -ℤ get_or vs 0 (pos 0)) vs)) ≡ c → h ≡ c
 last_point h c vs k l so_far =
-    let f : List ℤ → ℤ = λ v. point_code v -ℤ point_code (get_or vs 0 []) in
-    sym (ap (point_digits h) (drop_all k (code_differences vs) (omega (arith, l, length-map vs f)))) ∙ so_far
+    let f : ℤ → ℤ = λ x. x -ℤ get_or vs 0 (pos 0) in
+    sym (ap (point_digits h) (drop_all k (map f vs) (omega (arith, l, length-map vs f)))) ∙ so_far
+
+-- ---- the numbers but one
+
+pub number-without_below : (i k : ℕ) (xs : List ℤ) → k < i → get_or xs k (pos 0) ≡ get_or (without i xs) k (pos 0)
+number-without_below i k [] h = refl
+number-without_below zero k (x ∷ xs) h = absurd (omega arith)
+number-without_below (suc i) zero (x ∷ xs) h = refl
+number-without_below (suc i) (suc k) (x ∷ xs) h = number-without_below i k xs (omega arith)
+
+pub number-without_above : (i k : ℕ) (xs : List ℤ) → i ≤ k → get_or xs (k + 1) (pos 0) ≡ get_or (without i xs) k (pos 0)
+number-without_above i k [] h = refl
+number-without_above zero k (x ∷ xs) h = rw (add-one k) refl
+number-without_above (suc i) zero (x ∷ xs) h = absurd (omega arith)
+number-without_above (suc i) (suc k) (x ∷ xs) h =
+    let e : suc k + 1 ≡ suc (k + 1) = omega arith in
+    rw e (number-without_above i k xs (omega arith))
+
+pub numbers_left : (i : ℕ) (xs : List ℤ) → i < length xs → suc (length (without i xs)) ≡ length xs
+numbers_left i [] h = absurd (omega arith)
+numbers_left zero (x ∷ xs) h = refl
+numbers_left (suc i) (x ∷ xs) h = ap suc (numbers_left i xs (omega arith))
+
+pub number_within : (m i k : ℕ) (xs : List ℤ) → ((n : ℕ) (e : ℤ) → n < length xs → nat_abs (get_or xs n e) ≤ m) → suc k < length xs → nat_abs (get_or (without i xs) k (pos 0)) ≤ m
+number_within m i k xs h l =
+    elim (cases_lt k i) [
+      | inl b ↦ subst (λ (x : ℤ). nat_abs x ≤ m) (number-without_below i k xs b) (h k (pos 0) (omega (arith, l)))
+      | inr a ↦ subst (λ (x : ℤ). nat_abs x ≤ m) (number-without_above i k xs (omega (arith, a))) (h (k + 1) (pos 0) (omega (arith, l)))
+    ]

@@ -26,6 +26,12 @@ kept_all all kept c b h e = elim h [
   | inr same ↦ sym same ∙ e
 ]
 
+pub kept_some : (all kept : List ℤ) → AreKept all kept → (kept ≡ [] → ⊥) → kept ≡ all
+kept_some all kept h some = elim h [
+  | inl none ↦ absurd (some none)
+  | inr same ↦ same
+]
+
 pub outer_same : (s next : List (List ℤ)) (p : List ℤ) (j : ℕ) (v : List ℤ) (c : ℤ) (b : List ℤ) (x : ℤ) (y : List ℤ) → IsOuterIn s next p j v c b → c ∷ b ≡ x ∷ y → IsOuterIn s next p j v x y
 outer_same s next p j v c b x y o e =
     let h : c ≡ x = cc in

@@ -1,9 +1,10 @@
 -- Members that lie across a facet of a member: the first of them, and facets that have none.
-use Rattle.std.specs.Prelude.{ℕ, suc, ℤ, ◌<◌, ◌≤◌, ◌≡◌, ◌↔◌, List, [], length, get_or}
+use Rattle.std.specs.Prelude.{ℕ, suc, ℤ, ◌<◌, ◌≤◌, ◌≡◌, ◌↔◌, List, [], ◌∷◌, length, get_or}
 use Rattle.std.specs.List.{Contains}
 use Rattle.std.specs.List.Sorted.{IsStrictlySortedBy}
 use Rattle.lt_model.specs.Order.{simplex_cmp}
-use Rattle.lt_model.specs.Simplices.{AllOfDimension, translate}
+use Rattle.lt_model.specs.Simplices.{AllOfDimension, IsExpression, translate}
+use Rattle.lt_model.specs.Vectors.{IsPrimitive}
 use Rattle.lt_model.specs.Facets.{without, IsBeyond, IsNeighbour}
 
 -- d + 1 points of d coordinates, and a place among them
@@ -71,3 +72,13 @@ pub record IsOuterVertex (d : ℕ) (t : List (List (List ℤ))) (s : List (List 
   pub outer : ℕ
   pub neighbour : IsNeighbour d t s i next shift outer
   pub vertex : w ≡ get_or (translate shift next) outer []
+
+-- the numbers of the expression of that vertex over s in lowest terms: the scale, then the coefficients
+pub record AreOuterNumbers (d : ℕ) (t : List (List (List ℤ))) (s : List (List ℤ)) (i : ℕ) (numbers : List ℤ) : Type 0 where
+  pub vertex : List ℤ
+  pub scale : ℤ
+  pub coefficients : List ℤ
+  pub outer : IsOuterVertex d t s i vertex
+  pub expression : IsExpression s vertex scale coefficients
+  pub primitive : IsPrimitive (scale ∷ coefficients)
+  pub is : numbers ≡ scale ∷ coefficients

@@ -15,6 +15,10 @@ abbrev pub point_digits : ℤ → List ℤ → ℤ
 point_digits h [] = h
 point_digits h (x ∷ xs) = point_digits (pos 7 *ℤ h +ℤ x) xs
 
+-- the code of points with these codes
+abbrev pub digits_of : List ℤ → ℤ
+digits_of xs = point_digits (pos 0) (map (λ x. x -ℤ get_or xs 0 (pos 0)) xs)
+
 -- the codes of the points, less that of the first
 abbrev pub code_differences : List (List ℤ) → List ℤ
 code_differences vs = map (λ v. point_code v -ℤ point_code (get_or vs 0 [])) vs

@@ -1,6 +1,6 @@
 //! Expressions of points over the vertices of a class.
 
-ghost use Rattle.std.specs.Prelude.{◌≡◌, ◌*◌, ◌^◌, suc, ◌∷◌, length};
+ghost use Rattle.std.specs.Prelude.{◌≡◌, ◌<◌, ◌*◌, ◌^◌, suc, ◌∷◌, length, nat_abs};
 ghost use Rattle.std.specs.List.{All};
 ghost use Rattle.lt_model.specs.Limits.{span_limit};
 ghost use Rattle.lt_model.specs.Vectors.{IsPrimitive};
@@ -26,6 +26,14 @@ pub struct Expression {
     pub coefficients: ArrayVec<i128, 7>,
 }
 
+/// The number in 64 bits.
+fn short(x: i128) -> i64
+    requires { nat_abs x < 2 ^ 59 }
+    ensures { result ≡ x }
+{
+    x as i64
+}
+
 impl Expression {
     /// The same expression.
     pub fn copy(&self) -> Expression
@@ -39,6 +47,19 @@ impl Expression {
             scale: self.scale,
             coefficients,
         }
+    }
+
+    /// The scale and then the coefficients, in 64 bits.
+    pub(crate) fn numbers(&self) -> ArrayVec<i64, 8>
+        requires { AreBelow (2 ^ 59) (self.now.scale ∷ self.now.coefficients.items) }
+        ensures { result.items ≡ self.now.scale ∷ self.now.coefficients.items }
+    {
+        let mut all: ArrayVec<i64, 8> = ArrayVec::new();
+        all.push(short(self.scale));
+        for number in self.coefficients.as_slice() {
+            all.push(short(*number));
+        }
+        all
     }
 }
 

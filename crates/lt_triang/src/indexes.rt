@@ -1,29 +1,34 @@
 //! An index of the facets of classes: facets that are translates of one another stand in one bucket.
 
-ghost use Rattle.std.specs.Prelude.{◌≡◌, ◌<◌, ◌≤◌, ◌*◌, ◌++◌, ◌∷◌, suc, ℕ, List, [], length, get_or, set, IfOk, IfSome, MatchOption};
+ghost use Rattle.std.specs.Prelude.{◌≡◌, ◌<◌, ◌≤◌, ◌*◌, ◌^◌, ◌++◌, map, ◌∷◌, suc, ℕ, List, [], length, get_or, set, IfOk, IfSome, MatchOption};
 ghost use Rattle.lt_triang.specs.Across.{IsOpen, IsFacing, IsNotFacing};
-ghost use Rattle.lt_triang.specs.Codes as codes;
+ghost use Rattle.std.specs.List.{All};
+ghost use Rattle.lt_lattice.specs.Ranges.{IsWithin};
+ghost use Rattle.lt_triang.specs.Codes as model;
 ghost use Rattle.lt_triang.specs.Flat.{columns_of};
 ghost use Rattle.lt_triang.specs.Indexed.{buckets_of, IsIndexBelow, IsIndex, ArePlaces, AreNotFacing, IsFirstIn, IsOuterIn, HasOuter, IsKept};
 ghost use Rattle.lt_triang.specs.Kept.{AreClasses};
 
 use crate::classes::Class;
-use crate::codes::facet_code;
+use crate::codes::{facet_code, point_codes};
 use crate::neighbours::{Across, Neighbour, Outer, class_at, facing, member};
 use lt_lattice::Point;
 use lt_model::Memory;
 use lt_solve::Columns;
 use std::alloc::Global;
 
-/// The bucket of a facet. There are four for each class, so that most hold the facets of one translate alone.
-fn bucket_of(d: usize, classes: &[Class], n: usize, j: usize) -> usize
+/// The bucket of a facet of a class whose vertices have these codes. There are four for each class, so that most hold the facets of one
+/// translate alone.
+fn bucket_of(d: usize, classes: &[Class], n: usize, codes: &[i64], j: usize) -> usize
     requires members { AreClasses d classes.now }
     requires class { n < length classes.now }
+    requires codes { codes.now ≡ map model.point_code (get_or classes.now n []) }
+    requires small { All (IsWithin (2 ^ 45)) codes.now }
     requires place { j < suc d }
-    ensures value { result ≡ codes.bucket_of classes.now n j }
+    ensures value { result ≡ model.bucket_of classes.now n j }
     ensures within { result < 4 * length classes.now }
 {
-    let code = facet_code(d, member(classes, n), j).unsigned_abs();
+    let code = facet_code(d, codes, j).unsigned_abs();
     (code % (4 * classes.len() as u64)) as usize
 }
 
@@ -63,8 +68,9 @@ fn put_class(
     requires from { IsIndexBelow d classes.now n 0 (buckets_of buckets.old.items) }
     ensures { IfOk result (λ _. IsIndexBelow d classes.now (suc n) 0 (buckets_of buckets.new.items)) }
 {
+    let codes = point_codes(member(classes, n));
     for j in 0..d + 1 {
-        let bucket = bucket_of(d, classes, n, j);
+        let bucket = bucket_of(d, classes, n, codes.as_slice(), j);
         put(buckets, bucket, (n, j))?;
     }
     Ok(())
@@ -157,17 +163,20 @@ pub fn first_across(
     classes: &[Class],
     index: &[Vec<(usize, usize)>],
     n: usize,
+    codes: &[i64],
     columns: &Columns,
     i: usize,
 ) -> Option<Across>
     requires members { AreClasses d classes.now }
     requires index { IsIndex d classes.now (buckets_of index.now) }
     requires class { n < length classes.now }
+    requires codes { codes.now ≡ map model.point_code (get_or classes.now n []) }
+    requires small { All (IsWithin (2 ^ 45)) codes.now }
     requires columns { columns.now ≡ columns_of (get_or classes.now n []) }
     requires place { i < suc d }
     ensures { MatchOption result (IsOpen d classes.now (get_or classes.now n []) i) (IsKept d classes.now (get_or classes.now n []) i) }
 {
-    let bucket = bucket_of(d, classes, n, i);
+    let bucket = bucket_of(d, classes, n, codes, i);
     let facets = index[bucket].as_slice();
     first_in(d, classes, n, columns, i, facets)
 }

@@ -9,9 +9,10 @@ ghost use Rattle.lt_triang.specs.declared.walls.Wall.{Wall};
 ghost use Rattle.lt_triang.specs.declared.errors.TriangError.TheVariants.{OpenFacet};
 
 use crate::classes::Class;
+use crate::codes::point_codes;
 use crate::errors::TriangError;
 use crate::indexes::{first_across, index_of};
-use crate::neighbours::{Across, class_at};
+use crate::neighbours::{Across, class_at, member};
 use crate::walls::Wall;
 use lt_model::Memory;
 use std::alloc::Global;
@@ -81,12 +82,13 @@ fn row_of(
     ensures open { (class facet : ℕ) → result ≡ Err (OpenFacet class facet) → (class ≡ n) × IsFirstOpenOf d classes.now (get_or classes.now n []) facet }
 {
     let columns = class_at(classes, n).columns();
+    let codes = point_codes(member(classes, n));
     let mut facets = match Vec::with_capacity(alloc, d + 1) {
         Ok(facets) => facets,
         Err(_) => return Err(TriangError::Memory),
     };
     for i in 0..d + 1 {
-        match first_across(d, classes, index, n, &columns, i) {
+        match first_across(d, classes, index, n, codes.as_slice(), &columns, i) {
             Some(found) => match push_wall(&mut facets, &found) {
                 Ok(()) => {}
                 Err(_) => return Err(TriangError::Memory),
@@ -107,7 +109,10 @@ pub fn rows_of(alloc: Global, d: usize, classes: &[Class]) -> Result<Vec<Row>, T
         Ok(index) => index,
         Err(_) => return Err(TriangError::Memory),
     };
-    let mut rows = Vec::new(alloc);
+    let mut rows = match Vec::with_capacity(alloc, classes.len()) {
+        Ok(rows) => rows,
+        Err(_) => return Err(TriangError::Memory),
+    };
     for n in 0..classes.len() {
         match row_of(alloc, d, classes, &index, n) {
             Ok(row) => match rows.push(row) {
@@ -124,7 +129,10 @@ pub fn rows_of(alloc: Global, d: usize, classes: &[Class]) -> Result<Vec<Row>, T
 pub fn rows_copy(alloc: Global, given: &[Row]) -> Result<Vec<Row>, Memory>
     ensures { IfOk result (λ rows. rows.items ≡ given.now) }
 {
-    let mut rows = Vec::new(alloc);
+    let mut rows = match Vec::with_capacity(alloc, given.len()) {
+        Ok(rows) => rows,
+        Err(_) => return Err(Memory),
+    };
     for row in given {
         let copy = row.try_copy(alloc)?;
         rows.push(copy)?;

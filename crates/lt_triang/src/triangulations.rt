@@ -10,7 +10,7 @@ ghost use Rattle.lt_model.specs.Cones.{AreBelow};
 ghost use Rattle.lt_model.specs.Vectors.{IsPrimitive};
 ghost use Rattle.lt_triang.specs.Indexed.{IsKept};
 ghost use Rattle.lt_triang.specs.Walled.{IsWall};
-ghost use Rattle.lt_triang.specs.Across.{IsFirstAcross, IsOpenAnswer, IsOuterVertex};
+ghost use Rattle.lt_triang.specs.Across.{IsFirstAcross, IsOpenAnswer, IsOuterVertex, AreOuterNumbers};
 ghost use Rattle.lt_triang.specs.Kept.{IsTriangulation, AreClasses, dimension_of};
 ghost use Rattle.lt_lattice.specs.Ranges.{IsWithin};
 ghost use Rattle.lt_triang.specs.declared.errors.TriangError.TheVariants.{OpenFacet};
@@ -21,6 +21,7 @@ use crate::neighbours::{Across, Neighbour, Outer, member, shift_of, vertex_moved
 use crate::rows::{Row, rows_copy, rows_of};
 use crate::spans::span_of;
 use crate::walls::Wall;
+use arrayvec::ArrayVec;
 use lt_lattice::Point;
 use lt_model::Memory;
 use std::alloc::Global;
@@ -55,6 +56,7 @@ fn sorted_distinct(given: Vec<Class>) -> Vec<Class>
     let mut classes = given;
     classes.sort_unstable();
     classes.dedup();
+    classes.shrink_to_fit();
     classes
 }
 
@@ -70,7 +72,10 @@ fn dimension_of(classes: &[Class]) -> usize
 fn classes_copy(alloc: Global, given: &[Class]) -> Result<Vec<Class>, Memory>
     ensures { IfOk result (λ classes. classes.items ≡ given.now) }
 {
-    let mut classes = Vec::new(alloc);
+    let mut classes = match Vec::with_capacity(alloc, given.len()) {
+        Ok(classes) => classes,
+        Err(_) => return Err(Memory),
+    };
     for class in given {
         classes.push(class.copy())?;
     }
@@ -205,6 +210,21 @@ impl Triangulation {
     {
         let _dimension = self.dimension();
         self.across(class, facet).outer
+    }
+
+    /// The numbers of the expression of that vertex over the class in lowest terms: the scale, then the coefficients. It is faster than
+    /// `outer`, since the vertex is made only where the numbers aren't kept.
+    pub fn outer_numbers(&self, class: usize, facet: usize) -> ArrayVec<i64, 8>
+        requires class { class < length self.now }
+        requires facet { facet < length (get_or self.now class []) }
+        ensures { AreOuterNumbers (dimension_of self.now) self.now (get_or self.now class []) facet result.items }
+    {
+        let _dimension = self.dimension();
+        let numbers = self.wall(class, facet).widened();
+        if numbers.is_empty() {
+            return self.outer(class, facet).expression.numbers();
+        }
+        numbers
     }
 
     /// The vertex of the neighbour at facet `facet` of the class at place `class` that lies outside the class.

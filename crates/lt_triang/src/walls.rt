@@ -71,6 +71,17 @@ impl Wall {
         }
     }
 
+    /// The numbers of the expression that are kept, in 64 bits.
+    pub fn widened(&self) -> ArrayVec<i64, 8>
+        ensures { result.items ≡ self.now.numbers.items }
+    {
+        let mut all: ArrayVec<i64, 8> = ArrayVec::new();
+        for number in self.numbers.as_slice() {
+            all.push(i64::from(*number));
+        }
+        all
+    }
+
     /// The expression, or None where its numbers aren't kept.
     pub fn expression(&self) -> Option<Expression>
         ensures { IfSome result (λ e. self.now.numbers.items ≡ e.scale ∷ e.coefficients.items) }

@@ -1,12 +1,10 @@
-use Rattle.std.proofs.Common.{◌<◌, ◌^◌, nat_abs, ◌++◌, [], pos, sym, rules, get_or, add-one, FitsSigned, to_z, of_z, w64, arith, ◌≡◌, ◌∷◌, ◌∙◌, ap, length, take, drop, ℤ, List}
-use Rattle.std.specs.Int.{w128}
+use Rattle.std.proofs.Common.{◌++◌, [], pos, sym, rules, get_or, add-one, FitsSigned, to_z, of_z, w64, arith, ◌≡◌, ◌∷◌, ◌∙◌, ap, length, take, drop, ℤ, List}
 use Rattle.std.proofs.Math.Seq.{take-suc}
 use Rattle.std.proofs.lemmas.Int.{to_z-of_z}
 use Rattle.std.proofs.lemmas.List.{take_all, take_at, length-take-le}
 use Rattle.std.proofs.lemmas.List.Sorted.{length_permutation}
 use Rattle.std.specs.List.{refill}
 use Rattle.std.specs.List.Sorted.{IsPermutation}
-use Rattle.std.proofs.lemmas.List.Elements.{All-tail}
 use Rattle.lt_model.specs.Facets.{number_at}
 use Rattle.lt_colour.proofs.Numbers.{length-others}
 use Rattle.lt_colour.proofs.pairs.signature_from.Goals as goal
@@ -42,19 +40,10 @@ returns c =
       is = (rw (to_z-of_z _ c.args.scale c.ranges.scale) at c.loop-number.invariant) ∙ ap (λ (l : List ℤ). c.args.scale ∷ number_at c.args.facet b ∷ l) e;
     }
 
-pub others-rest-requires-clause-below : goal.others-rest-requires-clause-below
-others-rest-requires-clause-below c = All-tail (λ x. nat_abs x < 2 ^ 59) c.args.scale c.args.coefficients.now c.requires.below
-
-pub word-requires-2 : goal.word-requires-2
-word-requires-2 c =
-    let b = All-tail (λ x. nat_abs x < 2 ^ 59) c.args.scale c.args.coefficients.now c.requires.below in
-    let x : FitsSigned w128 (get_or c.args.coefficients.now c.args.facet (pos 0)) = search rules in
-    simp to_z-of_z (b c.args.facet (pos 0) c.requires.place)
-
 pub loop-number-preserved : goal.loop-number-preserved
 loop-number-preserved c =
     let k = c.loop-number.number-index in
     let all = c.as_slice-number-items.result.now in
     let x : FitsSigned w64 (get_or all k (pos 0)) = search rules in
     let h : c.push-in-loop-number.new.self.items ≡ c.loop-number.numbers.items ++ get_or all k (pos 0) ∷ [] = simp to_z-of_z at c.push-in-loop-number.ensures.items in
-    h ∙ ap (λ (l : List ℤ). l ++ get_or all k (pos 0) ∷ []) c.loop-number.invariant ∙ ap (λ (l : List ℤ). to_z w128 (of_z w128 c.args.scale) ∷ number_at c.args.facet c.args.coefficients.now ∷ l) (sym (take-suc all k (pos 0) c.loop-number-test.true) ∙ ap (λ n. take n all) (sym (add-one k)))
+    h ∙ ap (λ (l : List ℤ). l ++ get_or all k (pos 0) ∷ []) c.loop-number.invariant ∙ ap (λ (l : List ℤ). to_z w64 (of_z w64 c.args.scale) ∷ number_at c.args.facet c.args.coefficients.now ∷ l) (sym (take-suc all k (pos 0) c.loop-number-test.true) ∙ ap (λ n. take n all) (sym (add-one k)))

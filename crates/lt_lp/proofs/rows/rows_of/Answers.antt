@@ -12,5 +12,5 @@ loop-k-preserved c =
     record {
       size = longer c.loop-k.rows.items c.push.new.self.items _ k c.in-Ok-push.ensures.items c.loop-k.invariant.size;
       names = names_step ns c.loop-k.rows.items c.push.new.self.items _ k c.loop-k-test.true c.in-Ok-push.ensures.items c.loop-k.invariant.names n;
-      right = λ d a. each_step (λ j v. IsRightVerdict d ns j v) c.loop-k.rows.items c.push.new.self.items _ k c.in-Ok-push.ensures.items c.loop-k.invariant.size (c.loop-k.invariant.right d a) (c.in-Ok.ensures.right d a);
+      right = λ d a. each_step (λ j v. IsRightVerdict d ns j v) c.loop-k.rows.items c.push.new.self.items _ k c.in-Ok-push.ensures.items c.loop-k.invariant.size (c.loop-k.invariant.right d a) (c.in-Ok-decide_light.ensures.right d a);
     }

@@ -1,7 +1,6 @@
 use Rattle.std.proofs.Common.{◌<◌, ℕ, length, map, subst, arith}
 use Rattle.std.specs.Prelude.{IfSome, IfNone}
 use Rattle.lt_core.specs.Marks.{entry_of}
-use Rattle.lt_core.specs.Prints.{lists_of}
 use Rattle.lt_grammar.specs.Parsed.{entries_of}
 use Rattle.lt_grammar.proofs.Growing.{length-entries}
 use Rattle.lt_read.specs.Built.{spelt_marks, AreBuilt, AreAllRight, HasNoTwin, IsFirstWrong, IsFirstTwin}
@@ -71,7 +70,7 @@ first_twin-requires-clause-prints c =
     let h = built_here (goal.at.first_twin-requires-clause-prints c).In_ok-entries in
     let n = rw c.deref-4.ensures.value at c.in_ok-prints.ensures.count in
     let g = rw c.deref-4.ensures.value at c.in_ok-prints.ensures.each in
-    rw (c.deref-5.ensures.value, c.deref-6.ensures.value) (prints c.args.version c.args.parsed c.in_ok-entries.entries.items h (lists_of c.in_ok-prints.prints.items) n g)
+    rw (c.deref-5.ensures.value, c.deref-6.ensures.value) (prints c.args.version c.args.parsed c.in_ok-entries.entries.items h c.in_ok-prints.prints.items n g)
 
 pub returns-in-Some-2-clause-why : goal.returns-in-Some-2-clause-why
 returns-in-Some-2-clause-why c =

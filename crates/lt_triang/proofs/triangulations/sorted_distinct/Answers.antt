@@ -9,4 +9,4 @@ use Rattle.lt_triang.proofs.triangulations.sorted_distinct.Goals as goal
 pub returns : goal.returns
 returns c =
     let r = distinct _ (λ x y. lists_ties number_list_cmp (λ a b. lists_ties int_cmp (λ m n. refl) a b) x y) c.args.given.items c.sort_unstable.new.self.items c.dedup.new.self.items c.sort_unstable.ensures.permutation c.sort_unstable.ensures.sorted (dedup_is _ _ _ c.dedup.ensures.filtered) in
-    record { ascending = r.ascending; members = r.members }
+    rw c.shrink_to_fit.ensures.items (record { ascending = r.ascending; members = r.members })
