@@ -21,6 +21,9 @@ use Rattle.lt_text.proofs.Composed.{gained_then, gained_then_front, front_of_all
 
 -- ---- vertices
 
+length-negative : (s : List (List ℤ)) → length (negative s) ≡ length s
+length-negative s = lists.length-map (reverse (negated s)) (λ v. plus v (get_or s (length s - 1) [])) ∙ length-reverse (negated s) ∙ lists.length-map s (scale (negsuc 0))
+
 module _ (s : List (List ℤ)) (i : ℕ) (lt : i < length s) where
   vertex : get_or (negative s) i [] ≡ minus (get_or s (length s - 1) []) (get_or s (length s - 1 - i) [])
   vertex =
@@ -34,11 +37,7 @@ module _ (s : List (List ℤ)) (i : ℕ) (lt : i < length s) where
   -- one vertex more
   pub one_vertex_more : (p : List ℤ) → p ≡ minus (get_or s (length s - 1) []) (get_or s (length s - 1 - i) []) → take i (negative s) ++ (p ∷ []) ≡ take (i + 1) (negative s)
   one_vertex_more p is =
-      let m : length (negative s) ≡ length s = lists.length-map (reverse (negated s)) (λ v. plus v (get_or s (length s - 1) [])) ∙ length-reverse (negated s) ∙ lists.length-map s (scale (negsuc 0)) in
-      ap (λ (v : List ℤ). take i (negative s) ++ (v ∷ [])) (is ∙ sym vertex) ∙ sym (take_more (negative s) i [] (omega (arith, m, lt)))
-
-pub length-negative : (s : List (List ℤ)) → length (negative s) ≡ length s
-length-negative s = lists.length-map (reverse (negated s)) (λ v. plus v (get_or s (length s - 1) [])) ∙ length-reverse (negated s) ∙ lists.length-map s (scale (negsuc 0))
+      ap (λ (v : List ℤ). take i (negative s) ++ (v ∷ [])) (is ∙ sym vertex) ∙ sym (take_more (negative s) i [] (omega (arith, length-negative s, lt)))
 
 -- ---- classes
 

@@ -1,5 +1,5 @@
 -- The index of facets: how it grows, and why the first facet in a bucket is the first of all.
-use Rattle.std.proofs.Common.{◌≡◌, ℕ, suc, ℤ, ◌<◌, refl, ap, arith, sym, ◌∙◌, subst, List, [], ◌∷◌, ◌++◌, inl, inr, ◌⊎◌, length, get_or, set, Vec, Option, None, Some}
+use Rattle.std.proofs.Common.{◌≡◌, ℕ, suc, ℤ, ◌<◌, refl, ap, arith, sym, ◌∙◌, subst, List, [], ◌∷◌, ◌++◌, inl, inr, ◌⊎◌, length, get_or, set, Vec, Option, None, Some, ◌≤◌}
 use Rattle.std.specs.List.{Contains}
 use Rattle.std.proofs.lemmas.Bool.{cases_eq, cases_lt, cases_order}
 use Rattle.std.proofs.lemmas.List.{get_or_append_left, get_or_push, length_push, get_or-set_same, get_or-set_other, length-set, length-map, map-set, get_or-map, get_or_default}
@@ -114,6 +114,23 @@ index_grows d t m k at bs bs' lk la ea e h =
         rw (en, ej) there
 
 -- ---- what the index tells
+
+pub index_turns : (d : ℕ) (t : List (List (List ℤ))) (m k : ℕ) (bs : List (List Facet)) → suc d ≤ k → IsIndexBelow d t m k bs → IsIndexBelow d t (suc m) 0 bs
+index_turns d t m k bs lk h = record {
+  count = h.count;
+  each = λ n j p e. h.each n j p (wider n j p e);
+  before = λ b q l. past (entry_at bs b q) (h.before b q l);
+  ascending = h.ascending;
+  places = h.places;
+}
+  where
+    wider : (n j : ℕ) → j < suc d → IsEarlier (n, j) (suc m, 0) → IsEarlier (n, j) (m, k)
+    wider n j p (inl l) = elim (cases_lt n m) [ inl q ↦ inl q | inr q ↦ inr (omega (arith, l, q), omega (arith, p, lk)) ]
+    wider n j p (inr (e, l)) = absurd (omega (arith, l))
+
+    past : (a : Facet) → IsEarlier a (m, k) → IsEarlier a (suc m, 0)
+    past a (inl l) = inl (omega (arith, l))
+    past a (inr (e, l)) = inl (omega (arith, e))
 
 pub index_places : (d : ℕ) (t : List (List (List ℤ))) (bs : List (List Facet)) (b : ℕ) → IsIndex d t bs → ArePlaces d t (get_or bs b [])
 index_places d t bs b h q l = (inside (entry_at bs b q) (h.before b q l), h.places b q l)

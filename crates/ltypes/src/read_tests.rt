@@ -1,6 +1,7 @@
 //! What is read: true and false texts, and sources and sinks that fail.
 
 use super::{OpenGate, ltypes};
+use lt_grammar::{ParseError, parse_atlas, parse_atlas_1};
 use lt_io::{MemorySink, MemorySource, SliceSource, Source};
 use std::alloc::{AllocError, Global};
 use std::sync::Wait;
@@ -297,5 +298,23 @@ fn texts_of_the_first_version(rt: HostRuntime) -> Result<(), Fail> {
     let wrong = first_version(alloc, "cross 0 2 0 0 1")?;
     assert!(rt; told(&rt, alloc, &convert, &wrong)?.is(3, b"", "refused: cross 0 0\n"));
     assert!(rt; told(&rt, alloc, &["convert", "3"], &first)?.is(3, b"", "refused: other dimension 2\n"));
+    Ok(())
+}
+
+/// The two versions have one grammar but for the first line; version 1 lists all classes, version 2 half of them.
+#[test]
+fn texts_that_are_parsed(rt: HostRuntime) -> Result<(), Fail> {
+    let alloc = rt.alloc();
+    let first = first_version(alloc, "open")?;
+    let second = changed(alloc, &[(13, "open")])?;
+    let (Ok(all), Ok(half)) = (parse_atlas_1(alloc, &first, 2), parse_atlas(alloc, &second, 2)) else {
+        return Err(Fail::from(AllocError));
+    };
+    assert!(rt; all.d == 2 && all.entries[0].classes.len() == 2 && all.marks[0].len() == 3);
+    assert!(rt; half.d == 2 && half.entries[0].classes.len() == 1 && half.marks[0].len() == 3);
+    let (Err(one), Err(two)) = (parse_atlas_1(alloc, &second, 2), parse_atlas(alloc, &first, 2)) else {
+        return Err(Fail::from(AllocError));
+    };
+    assert!(rt; one == ParseError::Syntax { line: 1 } && two == ParseError::Syntax { line: 1 });
     Ok(())
 }
