@@ -12,7 +12,9 @@ use Rattle.lt_model.specs.Negatives.{negated, negative, comes_first, half}
 use Rattle.lt_model.specs.Triangulations.{IsDelaunay}
 use Rattle.lt_model.proofs.Sets.{simplex_cmp_total}
 use Rattle.lt_model.proofs.Filtered.{passing_in, from_filter, passes}
-use Rattle.lt_geometry.proofs.Choices.{AreApart, fit, apart_from_sorted}
+use Rattle.lt_geometry.proofs.Choices.{fit}
+use Rattle.lt_geometry.proofs.Rearranged.{IsDistinct}
+use Rattle.lt_geometry.proofs.Sorting.{sorted_is_distinct}
 use Rattle.lt_geometry.proofs.EdgeLists.{exact_points, exact_lists}
 use Rattle.lt_laws.specs.Negatives.{IsHalved}
 use Rattle.lt_laws.proofs.Negated.{negative_is_class, negative_of, negative_empty, negative-negative, not_own_negative}
@@ -20,11 +22,11 @@ use Rattle.lt_laws.proofs.Negated.{negative_is_class, negative_of, negative_empt
 -- ---- lists in two parts
 
 module _ {X : Type 0} (p : X → Bool) where
-  apart_filter : (xs : List X) → AreApart xs → AreApart (filter p xs)
+  apart_filter : (xs : List X) → IsDistinct xs → IsDistinct (filter p xs)
   apart_filter [] a = tt
   apart_filter (x ∷ xs) a = by (p x) (apart_filter xs a.1)
     where
-      by : (b : Bool) → AreApart (filter p xs) → AreApart (cond b (x ∷ filter p xs) (filter p xs))
+      by : (b : Bool) → IsDistinct (filter p xs) → IsDistinct (cond b (x ∷ filter p xs) (filter p xs))
       by true rest = (λ c. a.0 (from_filter p xs x c), rest)
       by false rest = rest
 
@@ -84,8 +86,8 @@ module _ (d : ℕ) (low : 2 ≤ d) where
         by true e = inl (passing_in comes_first t s m e)
         by false e = inr (passing_in comes_first t (negative s) (negative_in s m) (other_first s (of_class s m) e))
 
-    all_apart : AreApart t
-    all_apart = apart_from_sorted simplex_cmp simplex_cmp_total t del.ascending
+    all_apart : IsDistinct t
+    all_apart = sorted_is_distinct simplex_cmp simplex_cmp_total t del.ascending
 
     one_back : (s r : List (List ℤ)) (n : List (List ℤ)) → IsClass d s → IsClass d r → negative s ≡ n → negative r ≡ n → s ≡ r
     one_back s r n c k e f = sym (negative-negative d s c) ∙ ap negative (e ∙ sym f) ∙ negative-negative d r k
