@@ -35,7 +35,7 @@ use Rattle.lt_section.specs.Rows.{IsSectionFacet, IsWallAt, IsDeadBy, IsZeroEdge
 use Rattle.lt_section.specs.Decided.{AreNotZeroAt, IsFirstZero, IsFormAt, IsVerdictOn}
 use Rattle.lt_section.proofs.Filling.{length-filled}
 use Rattle.lt_section.proofs.Fronts.{dot-filled, dot-both_filled, take-plus, take-zeros, take-scale, take-combine}
-use Rattle.lt_section.proofs.Lowering.{lowered_length, no_multiple}
+use Rattle.lt_section.proofs.Lowering.{lowered_length}
 use Rattle.lt_section.proofs.Sectioned.{fronts, count, at_place, front_at, normal_at, normal_length, are_section_normals}
 
 -- ---- the first form lies in the section

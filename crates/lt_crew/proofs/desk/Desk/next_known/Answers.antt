@@ -12,9 +12,9 @@ index-requires g c =
     let k = c.in-Some.ensures.found.1 in
     omega (arith, n, k)
 
-pub returns-in-Some-clause-form : goal.returns-in-Some-clause-form
-returns-in-Some-clause-form g c =
+pub returns-in_ok-image-in-Some-clause-form : goal.returns-in_ok-image-in-Some-clause-form
+returns-in_ok-image-in-Some-clause-form g c =
     let d = c.args.self.now in
     let l = c.in-Some.ensures.found.1 in
     let there = shared_at d.shared.items d.atlas.entries c.in-Some.k c.index.result.now d.all_shared l c.index.ensures in
-    subst (λ (z : Classes). IsOfSomeForm z) (sym (c.in_ok-image.ensures ∙ there)) (entry_delaunay d.atlas c.keeps.ensures.low c.keeps.ensures.kept c.in-Some.k l)
+    subst (λ (z : Classes). IsOfSomeForm z) (sym (c.in_ok-image-in-Some.ensures ∙ there)) (entry_delaunay d.atlas c.keeps.ensures.low c.keeps.ensures.kept c.in-Some.k l)
