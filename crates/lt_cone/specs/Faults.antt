@@ -19,7 +19,7 @@ IsFault d ns c (Wrong row) =
     ((weight_limit ≤ weight d ns) × (row ≡ length ns + 1))
     ⊎ ((weight d ns < weight_limit) × (row < length ns) × ((k : ℕ) → k < row → IsRowOf d ns c.rows k) × (IsRowOf d ns c.rows row → ⊥))
     ⊎ ((weight d ns < weight_limit) × (row ≡ length ns) × ((k : ℕ) → k < row → IsRowOf d ns c.rows k)
-        × ((length c.rows ≡ length ns) × IsReduced (sum_of_walls (numbers_of_form d) c.rows) c.form → ⊥))
+    × ((length c.rows ≡ length ns) × IsReduced (sum_of_walls (numbers_of_form d) c.rows) c.form → ⊥))
 
 -- the triangulation has the list of its regulators, and the fault is one of it
 abbrev pub HasFault : ℕ → List (List (List ℤ)) → Cone → ConeFault → Type 0

@@ -62,6 +62,7 @@ module _ (version : ℕ) (t : Classes) (cs : List (List ℤ)) (i place : ℕ) (w
 
   pub at_end : length t ≤ i → (place ≡ length cs) ↔ (map class_numbers (listed version t) ≡ cs)
   at_end le =
-      let whole : map class_numbers (listed version t) ≡ take place cs = ap (map class_numbers) (listed_is version t ∙ ap (filter (is_listed version)) (sym (take_all i t le))) ∙ same in
-      ((λ e. whole ∙ take_all place cs (omega (arith, e))),
-      λ h. sym (length-take-le place cs within) ∙ ap length (sym whole ∙ h))
+      let whole : map class_numbers (listed version t) ≡ take place cs = ap (map class_numbers) (listed_is version t ∙ ap (filter (is_listed version)) (sym (take_all i t le))) ∙ same in (
+        (λ e. whole ∙ take_all place cs (omega (arith, e))),
+        λ h. sym (length-take-le place cs within) ∙ ap length (sym whole ∙ h),
+      )

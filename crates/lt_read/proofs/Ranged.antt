@@ -63,10 +63,12 @@ module _ (version : ℕ) (a : Atlas) (low : 2 ≤ a.dimension) (high : a.dimensi
       let long = length-map (listed version (own k)) class_numbers in
       let some = some_listed version d (own k) low f in
       let least = few_listed version d (own k) low f in
-      let most = few_classes d f.0 (own k) low high f.1 in
-      ((omega (arith, long, some), omega (arith, long, least, most)), classes_all d (listed version (own k)) (λ s c.
-      let m = from_listed version (own k) s c in
-      class_below d (span_limit d) s (right.classes s m) (near_from_span (span_limit d) (own k) s right.narrow m)))
+      let most = few_classes d f.0 (own k) low high f.1 in (
+        (omega (arith, long, some), omega (arith, long, least, most)),
+        classes_all d (listed version (own k)) (λ s c.
+            let m = from_listed version (own k) s c in
+            class_below d (span_limit d) s (right.classes s m) (near_from_span (span_limit d) (own k) s right.narrow m)),
+      )
 
   marks_fit : (k : ℕ) → k < length a.entries → MarksFit d (length (facets (entry_at a.entries k))) (map mark_value (get_or a.marks k []))
   marks_fit k l =

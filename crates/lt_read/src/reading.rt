@@ -58,7 +58,12 @@ fn atlas_of(alloc: Global, version: u8, parsed: Parsed) -> Result<Atlas, Stop>
 }
 
 /// Reads all bytes that the source has left as a text of the version, and answers the atlas that it spells, where it is right.
-fn read_version<S: Source>(alloc: Global, version: u8, source: &mut S, d: u8) -> Result<Atlas, ReadError>
+fn read_version<S: Source>(
+    alloc: Global,
+    version: u8,
+    source: &mut S,
+    d: u8,
+) -> Result<Atlas, ReadError>
     ensures read { IfOk result (ReadsAtlas version d (S.left source.old) (S.left source.new)) }
     ensures dimension { IfOk result (λ a. a.dimension ≡ d) }
     ensures unrun { IfOk result (λ a. a.log ≡ []) }

@@ -1,6 +1,6 @@
 //! The command that takes over texts of version 1.
 
-ghost use Rattle.std.specs.Prelude.{IfOk, IfErr};
+ghost use Rattle.std.specs.Prelude.{◌≡◌, IfOk, IfErr};
 ghost use Rattle.lt_words.specs.Grammar.{IsDimension};
 ghost use Rattle.ltypes.specs.Answers.{AnswersConvert};
 ghost use Rattle.ltypes.specs.Beginnings.{IsSpelt, IsUnspelt};

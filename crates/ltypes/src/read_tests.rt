@@ -269,8 +269,10 @@ fn faults_of_source_and_sink(rt: HostRuntime) -> Result<(), Fail> {
 
 /// The atlas of dimension 2 in version 1 of the text, where this is the mark of its first facet.
 fn first_version(alloc: Global, mark: &str) -> Result<Vec<u8>, AllocError> {
-    let start = b"ltypes 1\ndimension 2\nentries 1\nentry 0 start\nsimplices 2\n0 0 0 1 1 1\n0 0 1 0 1 1\n";
-    let cone = b"regulators 3\nfacet 0 -1 0 wall 1 0 1\nfacet 0 1 2 wall 2 -2 1\nfacet 2 1 0 wall 1 -2 2\nform 1 -1 1\n";
+    let start =
+        b"ltypes 1\ndimension 2\nentries 1\nentry 0 start\nsimplices 2\n0 0 0 1 1 1\n0 0 1 0 1 1\n";
+    let cone =
+        b"regulators 3\nfacet 0 -1 0 wall 1 0 1\nfacet 0 1 2 wall 2 -2 1\nfacet 2 1 0 wall 1 -2 2\nform 1 -1 1\n";
     let mut text = Vec::from_slice(alloc, start)?;
     text.extend_from_slice(cone)?;
     text.extend_from_slice(b"marks 3\n")?;
@@ -297,7 +299,9 @@ fn texts_of_the_first_version(rt: HostRuntime) -> Result<(), Fail> {
     }
     let wrong = first_version(alloc, "cross 0 2 0 0 1")?;
     assert!(rt; told(&rt, alloc, &convert, &wrong)?.is(3, b"", "refused: cross 0 0\n"));
-    assert!(rt; told(&rt, alloc, &["convert", "3"], &first)?.is(3, b"", "refused: other dimension 2\n"));
+    assert!(rt;
+        told(&rt, alloc, &["convert", "3"], &first)?.is(3, b"", "refused: other dimension 2\n")
+    );
     Ok(())
 }
 
@@ -307,12 +311,18 @@ fn texts_that_are_parsed(rt: HostRuntime) -> Result<(), Fail> {
     let alloc = rt.alloc();
     let first = first_version(alloc, "open")?;
     let second = changed(alloc, &[(13, "open")])?;
-    let (Ok(all), Ok(half)) = (parse_atlas_1(alloc, &first, 2), parse_atlas(alloc, &second, 2)) else {
+    let (Ok(all), Ok(half)) = (
+        parse_atlas_1(alloc, &first, 2),
+        parse_atlas(alloc, &second, 2),
+    ) else {
         return Err(Fail::from(AllocError));
     };
     assert!(rt; all.d == 2 && all.entries[0].classes.len() == 2 && all.marks[0].len() == 3);
     assert!(rt; half.d == 2 && half.entries[0].classes.len() == 1 && half.marks[0].len() == 3);
-    let (Err(one), Err(two)) = (parse_atlas_1(alloc, &second, 2), parse_atlas(alloc, &first, 2)) else {
+    let (Err(one), Err(two)) = (
+        parse_atlas_1(alloc, &second, 2),
+        parse_atlas(alloc, &first, 2),
+    ) else {
         return Err(Fail::from(AllocError));
     };
     assert!(rt; one == ParseError::Syntax { line: 1 } && two == ParseError::Syntax { line: 1 });
