@@ -15,9 +15,10 @@ use lt_flip::flip;
 use lt_lattice::Matrix;
 use lt_lp::Cone;
 use lt_match::match_types;
+use lt_model::Memory;
 use lt_principal::principal;
 use lt_triang::Triangulation;
-use std::alloc::{AllocError, Global};
+use std::alloc::Global;
 use std::process::Abort;
 use std::test::Fail;
 
@@ -183,12 +184,12 @@ fn a_type_is_entered_once(rt: HostRuntime) -> Result<(), Fail> {
 }
 
 /// The starting atlas of dimension 2, made of its parts.
-fn made_of_parts(rt: &impl Abort, alloc: Global) -> Result<Atlas, AllocError> {
+fn made_of_parts(rt: &impl Abort, alloc: Global) -> Result<Atlas, Memory> {
     let Ok(triangulation) = principal(alloc, 2) else {
-        return Err(AllocError);
+        return Err(Memory);
     };
     let Ok(cone) = cone(alloc, &triangulation) else {
-        return Err(AllocError);
+        return Err(Memory);
     };
     if cone.facets() != 3 {
         assert!(rt; false);
