@@ -74,14 +74,3 @@ fn wrong_verdicts(rt: HostRuntime) {
     };
     assert!(rt; !check(&normals, 0, &empty));
 }
-
-/// The normal 0 is the sum of no terms.
-#[test]
-fn no_terms(rt: HostRuntime) {
-    let normals = [Normal::of(2, &[0, 0, 0]), Normal::of(2, &[0, -1, 0])];
-    let empty = Verdict::Combination {
-        scale: 1,
-        terms: ArrayVec::new(),
-    };
-    assert!(rt; check(&normals, 0, &empty) && !check(&normals, 1, &empty));
-}
