@@ -8,12 +8,6 @@ use borrow.Author.Count.{below_more}
 use Rattle.lt_model.specs.Facets.{without}
 use Rattle.lt_model.proofs.Walk.{length-without}
 
-pub removed : {X : Type 0} (xs : List X) (i : ℕ) → remove xs i ≡ without i xs
-removed [] zero = refl
-removed [] (suc i) = refl
-removed (x ∷ xs) zero = refl
-removed (x ∷ xs) (suc i) = ap (λ l. x ∷ l) (removed xs i)
-
 -- an ordered list of the members but one is shorter by one
 pub length-others : (b sorted others : List ℤ) (i : ℕ) → i < length b → others ≡ without i b → IsPermutation others sorted → suc (length sorted) ≡ length b
 length-others b sorted others i h e p = ap suc (length_permutation others sorted p ∙ ap length e) ∙ length-without i b h

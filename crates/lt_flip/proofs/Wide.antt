@@ -4,7 +4,6 @@ use Rattle.std.specs.List.{Contains}
 use Rattle.std.specs.List.Sorted.{IsStrictlySortedBy}
 use Rattle.std.proofs.lemmas.List.{get_or_default}
 use Rattle.std.proofs.lemmas.List.Elements.{Contains-get_or}
-use Rattle.lt_model.proofs.Sets.{same_members, simplex_cmp_total}
 use Rattle.lt_model.specs.Limits.{class_span, span_limit}
 use Rattle.lt_model.specs.Order.{simplex_cmp}
 use Rattle.lt_model.specs.Vectors.{minus, scale}
@@ -13,10 +12,8 @@ use Rattle.lt_model.specs.Triangulations.{IsDelaunay}
 use Rattle.lt_model.specs.Walls.{IsAcross}
 use Rattle.lt_model.specs.Flips.{IsFlipOf}
 use Rattle.lt_geometry.proofs.FlipOf.{flips_are_across}
-use Rattle.lt_triang.specs.Across.{IsOpenAnswer}
 use Rattle.lt_triang.specs.Kept.{IsTriangulation, AreClasses, dimension_of, IsOfSomeForm}
 use Rattle.lt_triang.proofs.Gaps.{greatest_at_most}
-use Rattle.lt_triang.proofs.Made.{not_open}
 use Rattle.lt_triang.proofs.SomeForm.{some_form as of_some_form}
 use Rattle.lt_flip.specs.Flipped.{AreFlipped, IsFirstWide, IsWideFlip}
 use Rattle.lt_flip.proofs.Collected.{IsFlippable, flip_from}
@@ -42,14 +39,6 @@ narrow_classes d q t low high k each = record {
   classes = member_class d q t k;
   narrow = greatest_at_most class_span t (span_limit d) (λ s (i, l, e). subst (λ (z : List (List ℤ)). class_span z ≤ span_limit d) (get_or_default t i [] s l ∙ e) (each i l));
 }
-
--- a Delaunay triangulation has no open facet
-pub none_open : (d : ℕ) (q : List ℤ) (given : List (List (List ℤ))) (n i : ℕ) → AreClasses d given → IsStrictlySortedBy simplex_cmp given → IsDelaunay d q given → IsOpenAnswer d given n i → ⊥
-none_open d q given n i c up k a =
-    let same : a.t ≡ given = same_members simplex_cmp simplex_cmp_total a.t given a.ascending up a.members in
-    let h : IsTriangulation d given = record { low = c.low; high = c.high; occupied = k.occupied; ascending = up; classes = c.classes; closed = k.closed; narrow = c.narrow } in
-    let t : IsTriangulation d a.t = subst (λ (z : List (List (List ℤ))). IsTriangulation d z) (sym same) h in
-    not_open d a.t (get_or a.t n []) i t (Contains-get_or a.t n [] a.first.member) a.first.facet.place (λ m j g l. a.first.facet.none m j g l)
 
 -- what is known of the sorted classes of a flip
 pub record IsSortedFlip (d : ℕ) (t : List (List (List ℤ))) (n : List ℤ) (classes : List (List (List ℤ))) : Type 0 where
@@ -77,6 +66,12 @@ pub narrow_flip : (d : ℕ) (t : List (List (List ℤ))) (n : List ℤ) (classes
 narrow_flip d t n classes now e low high h is same each =
     subst (λ (m : ℕ). AreClasses m classes) (sym h.dimension)
     (narrow_classes d h.form classes low high h.delaunay (subst (λ (l : List (List (List ℤ))). (i : ℕ) → i < length l → class_span (get_or l i []) ≤ span_limit d) is (subst (λ (m : ℕ). (i : ℕ) → i < length now → class_span (get_or now i []) ≤ span_limit m) same each)))
+
+-- the sorted classes are a triangulation, where no span is above the limit
+pub flip_triangulation : (d : ℕ) (t : List (List (List ℤ))) (n : List ℤ) (classes : List (List (List ℤ))) → IsSortedFlip d t n classes → IsStrictlySortedBy simplex_cmp classes → AreClasses (dimension_of classes) classes → IsTriangulation d classes
+flip_triangulation d t n classes h up given =
+    let k : AreClasses d classes = subst (λ (m : ℕ). AreClasses m classes) h.dimension given in
+    record { low = k.low; high = k.high; occupied = h.delaunay.occupied; ascending = up; classes = k.classes; closed = h.delaunay.closed; narrow = k.narrow }
 
 pub wide_flip : (d : ℕ) (t : List (List (List ℤ))) (n : List ℤ) (classes now : List (List (List ℤ))) (e i : ℕ) (found s : List (List ℤ)) (c : ℤ) → IsSortedFlip d t n classes → now ≡ classes → e ≡ d → IsFirstWide e now i → found ≡ get_or classes i found → s ≡ found → c ≡ pos (class_span found) → IsWideFlip d t n s c
 wide_flip d t n classes now e i found s c h is same first at s_is c_is =

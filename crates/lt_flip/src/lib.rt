@@ -8,4 +8,4 @@ mod outers;
 mod terms;
 
 pub use cell_list::{Cell, cells};
-pub use flips::{FlipError, flip};
+pub use flips::{FlipError, flip, flipped_classes};

@@ -13,17 +13,17 @@ ghost use Rattle.lt_match.specs.Images.{GoesInto, TakesTo};
 use crate::bases::{basis_of, matrix_taking};
 use crate::images::{goes_into, images};
 use lt_lattice::{Matrix, Point};
-use lt_triang::Triangulation;
+use lt_triang::{Class, Triangulation, member};
 
 /// Whether each class of `from`, from place `start` on, goes to a member of `to`.
-pub fn all_go(d: usize, u: &Matrix, from: &Triangulation, start: usize, to: &Triangulation) -> bool
+pub fn all_go(d: usize, u: &Matrix, from: &[Class], start: usize, to: &Triangulation) -> bool
     requires square { length u.now ≡ d * d }
     requires origin { IsTriangulation d from.now }
     requires target { IsTriangulation d to.now }
     ensures { IsTrue result ↔ ((n : ℕ) → start ≤ n → n < length from.now → GoesInto d (rows d u.now) (get_or from.now n []) to.now) }
 {
     for n in start..from.len() {
-        if !goes_into(d, u, from.class(n).vertices(), to) {
+        if !goes_into(d, u, member(from, n), to) {
             return false;
         }
     }
@@ -60,6 +60,25 @@ fn has_inverse(d: usize, u: &Matrix, s: &[Point]) -> bool
     }
 }
 
+/// Whether the matrix carries the triangulation of the classes `from` onto `to`: it has a whole inverse, and the classes of the images of
+/// the members of `from` are exactly the members of `to`. It takes no memory.
+pub fn carries_classes(d: usize, u: &Matrix, from: &[Class], to: &Triangulation) -> bool
+    requires square { length u.now ≡ d * d }
+    requires origin { IsTriangulation d from.now }
+    requires target { dimension_of to.now ≡ d }
+    ensures { IsTrue result ↔ Carries d (rows d u.now) from.now to.now }
+{
+    // It shows that the members of `to` are classes.
+    let _dimension = to.dimension();
+    if from.len() != to.len() {
+        return false;
+    }
+    if !all_go(d, u, from, 0, to) {
+        return false;
+    }
+    has_inverse(d, u, member(from, 0))
+}
+
 /// Whether the matrix carries `from` onto `to`: it has a whole inverse, and the classes of the images of the members of `from`
 /// are exactly the members of `to`. It takes no memory.
 pub fn carries(u: &Matrix, from: &Triangulation, to: &Triangulation) -> bool
@@ -68,12 +87,5 @@ pub fn carries(u: &Matrix, from: &Triangulation, to: &Triangulation) -> bool
     ensures { IsTrue result ↔ Carries (dimension_of from.now) (rows (dimension_of from.now) u.now) from.now to.now }
 {
     let d = from.dimension() as usize;
-    let _same = to.dimension();
-    if from.len() != to.len() {
-        return false;
-    }
-    if !all_go(d, u, from, 0, to) {
-        return false;
-    }
-    has_inverse(d, u, from.class(0).vertices())
+    carries_classes(d, u, from.classes(), to)
 }

@@ -8,6 +8,6 @@ mod images;
 mod matching;
 mod transforms;
 
-pub use carrying::carries;
+pub use carrying::{carries, carries_classes};
 pub use matching::match_types;
 pub use transforms::{ImageError, image};

@@ -65,7 +65,7 @@ fn attempt(
         Some(u) => u,
         None => return None,
     };
-    if !all_go(d, &u, from, 1, to) {
+    if !all_go(d, &u, from.classes(), 1, to) {
         return None;
     }
     if !comes_back(d, from.class(0).vertices(), targets.as_slice()) {

@@ -1,16 +1,21 @@
 -- The regulators of the facets, member by member and facet by facet; sorted, they are the regulators of the triangulation.
-use Rattle.std.proofs.Common.{◌≡◌, ℕ, zero, suc, ℤ, ◌+◌, ◌<◌, ◌≤◌, refl, arith, sym, ◌∙◌, subst, List, [], ◌∷◌, ◌++◌, length, get_or, inl, inr, ◌↔◌}
+use Rattle.std.proofs.Common.{◌≡◌, ℕ, zero, suc, ℤ, negsuc, ◌+◌, ◌<◌, ◌≤◌, refl, arith, sym, ◌∙◌, subst, List, [], ◌∷◌, ◌++◌, length, get_or, inl, inr, ◌↔◌}
 use Rattle.std.specs.List.{Contains}
 use Rattle.std.specs.List.Sorted.{IsStrictlySortedBy}
 use Rattle.std.proofs.lemmas.Bool.{cases_lt}
 use Rattle.std.proofs.lemmas.List.Elements.{Contains-get_or, Contains-push_cases}
 use Rattle.lt_model.proofs.Sets.{Contains-none}
 use Rattle.lt_model.specs.Order.{number_list_cmp}
+use Rattle.lt_model.specs.Facets.{IsNeighbour}
+use Rattle.lt_model.specs.Vectors.{scale}
 use Rattle.lt_model.specs.Triangulations.{IsDelaunay}
 use Rattle.lt_model.specs.Walls.{IsRegulator, AreRegulators}
 use Rattle.lt_geometry.specs.Regulators.{IsRegulatorAt}
-use Rattle.lt_geometry.proofs.Regulators.{all_regulators, one_regulator}
+use Rattle.lt_geometry.proofs.Regulators.{all_regulators, one_regulator, mutual_regulator}
+use Rattle.lt_geometry.proofs.Sides.{mutual_neighbour}
+use Rattle.lt_triang.specs.Across.{IsFirstAcross}
 use Rattle.lt_triang.specs.Kept.{dimension_of}
+use Rattle.lt_triang.proofs.Made.{neighbour_from}
 use Rattle.lt_regulator.specs.Regulated.{HasRegulatorsOf, HasRegulatorsBelow}
 
 -- the regulators of the members before m, and those of the first facets of m
@@ -48,6 +53,30 @@ listed_more t m i ns n h lm li r = record {
         elim (cases_lt k i) [
           | inl l ↦ (let s = h.own.each k l in (s.0, front_is ns n s.0 s.1, s.2))
           | inr l ↦ (n, last_is ns n, let e : i ≡ k = omega (arith, l, p) in subst (λ (z : ℕ). IsRegulatorAt (dimension_of t) t (get_or t m []) z n) e r)
+        ]
+
+-- a facet that the member shares with an earlier one has its regulator there
+pub listed_before : (q : List ℤ) (t : List (List (List ℤ))) (m i n : ℕ) (p : List ℤ) (j : ℕ) (ns : List (List ℤ)) → IsDelaunay (dimension_of t) q t → IsListed t m i ns → m < length t → i < suc (dimension_of t) → n < m →
+    IsFirstAcross (dimension_of t) t (get_or t m []) i n p j → IsListed t m (i + 1) ns
+listed_before q t m i n p j ns k h lm li before f = record { below = h.below; own = record { each = λ e l. each e l } }
+  where
+    d : ℕ
+    d = dimension_of t
+
+    there : (x : List ℤ) × Contains ns x × IsRegulatorAt d t (get_or t n []) j x
+    there = (h.below.all n before).each j f.place
+
+    back : IsNeighbour d t (get_or t n []) j (get_or t m []) (scale (negsuc 0) p) i
+    back = mutual_neighbour d q t (get_or t m []) i (get_or t n []) p j k (Contains-get_or t m [] lm) li (neighbour_from d t (get_or t m []) i n p j f)
+
+    here : IsRegulatorAt d t (get_or t m []) i there.0
+    here = mutual_regulator d q t (get_or t n []) j (get_or t m []) (scale (negsuc 0) p) i there.0 k (Contains-get_or t n [] f.member) f.place back there.2
+
+    each : (e : ℕ) → e < i + 1 → (x : List ℤ) × Contains ns x × IsRegulatorAt d t (get_or t m []) e x
+    each e l =
+        elim (cases_lt e i) [
+          | inl b ↦ h.own.each e b
+          | inr b ↦ (there.0, there.1, let same : i ≡ e = omega (arith, b, l) in subst (λ (z : ℕ). IsRegulatorAt d t (get_or t m []) z there.0) same here)
         ]
 
 -- all facets of the member

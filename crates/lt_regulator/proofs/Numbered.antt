@@ -12,10 +12,9 @@ use Rattle.lt_model.proofs.Walk.{number_at-scale, number_at-plus}
 use Rattle.lt_lattice.proofs.Products.{length-squares}
 use Rattle.lt_regulator.specs.Signed.{product_at, excess_at}
 
--- what is summed once the first vertices are taken off, and how large it is
-pub record IsLeft (i j : ℕ) (s : List (List ℤ)) (w : List ℤ) (c : ℤ) (b : List ℤ) (m : ℕ) (sum : ℤ) : Type 0 where
-  pub so_far : sum -ℤ dot (drop m b) (map (product_at i j) (drop m s)) ≡ excess_at i j s w c b
-  pub small : nat_abs sum ≤ (1 + m) * 2 ^ 99
+-- what is summed once the first vertices are taken off
+abbrev pub IsLeft : ℕ → ℕ → List (List ℤ) → List ℤ → ℤ → List ℤ → ℕ → ℤ → Type 0
+IsLeft i j s w c b m sum = sum -ℤ dot (drop m b) (map (product_at i j) (drop m s)) ≡ excess_at i j s w c b
 
 -- place k is where row i of the products begins
 abbrev pub IsRowAt : ℕ → ℕ → ℕ → Type 0
@@ -27,23 +26,17 @@ IsPlaceAt d i j k = (x : List ℤ) → length x ≡ d → drop k (squares x) ≡
 
 -- one vertex more
 pub left_more : (i j m : ℕ) (s : List (List ℤ)) (w : List ℤ) (c : ℤ) (b : List ℤ) (sum term : ℤ) → IsLeft i j s w c b m sum → m < length s → length b ≡ length s →
-    term ≡ get_or b m (pos 0) *ℤ product_at i j (get_or s m []) → nat_abs term ≤ 2 ^ 99 → IsLeft i j s w c b (m + 1) (sum -ℤ term)
-left_more i j m s w c b sum term h p l e t =
+    term ≡ get_or b m (pos 0) *ℤ product_at i j (get_or s m []) → IsLeft i j s w c b (m + 1) (sum -ℤ term)
+left_more i j m s w c b sum term h p l e =
     let tail : ℤ = dot (drop (m + 1) b) (map (product_at i j) (drop (m + 1) s)) in
     let n : dot (drop m b) (map (product_at i j) (drop m s)) ≡ get_or b m (pos 0) *ℤ product_at i j (get_or s m []) +ℤ tail = next (omega (arith, l, p)) in
-    record {
-      so_far = moved sum term (get_or b m (pos 0) *ℤ product_at i j (get_or s m [])) tail e ∙ ap (λ z. sum -ℤ z) (sym n) ∙ h.so_far;
-      small = larger sum term h.small t;
-    }
+    moved sum term (get_or b m (pos 0) *ℤ product_at i j (get_or s m [])) tail e ∙ ap (λ z. sum -ℤ z) (sym n) ∙ h
   where
     next : m < length b → dot (drop m b) (map (product_at i j) (drop m s)) ≡ get_or b m (pos 0) *ℤ product_at i j (get_or s m []) +ℤ dot (drop (m + 1) b) (map (product_at i j) (drop (m + 1) s))
     next q = rw (add-one m, drop-cons b m (pos 0), drop-cons s m []) refl
 
     moved : (x y z v : ℤ) → y ≡ z → x -ℤ y -ℤ v ≡ x -ℤ (z +ℤ v)
     moved x y z v e = omega (arith, ints, e)
-
-    larger : (x y : ℤ) → nat_abs x ≤ (1 + m) * 2 ^ 99 → nat_abs y ≤ 2 ^ 99 → nat_abs (x -ℤ y) ≤ (1 + (m + 1)) * 2 ^ 99
-    larger x y h k = omega (arith, ints)
 
 -- ---- places
 

@@ -67,12 +67,13 @@ fn may_have(t: &Triangulation, class: usize, facet: usize, normal: &Normal) -> b
         return true;
     }
     let simplex = t.class(class);
-    let outer = t.outer(class, facet);
+    let vertex = t.outer_vertex(class, facet);
+    let numbers = t.outer_numbers(class, facet);
     signs_agree(
         usize::from(dimension),
         simplex.vertices(),
-        &outer.vertex,
-        &outer.expression,
+        &vertex,
+        numbers.as_slice(),
         normal.numbers(),
     )
 }
@@ -90,7 +91,8 @@ pub fn has_regulator(t: &Triangulation, class: usize, facet: usize, normal: &Nor
     may_have(t, class, facet, normal) && regulator(t, class, facet) == *normal
 }
 
-/// Appends the regulators at the facets of the class at place `class`.
+/// Appends the regulators at the facets of the class at place `class`, but those that it shares with an earlier class: they are listed
+/// there, since the regulator of a pair is the same from both sides.
 fn push_regulators_of(all: &mut Vec<Normal>, t: &Triangulation, class: usize) -> Result<(), Memory>
     requires delaunay { IsOfSomeForm t.now }
     requires class { class < length t.now }
@@ -98,12 +100,14 @@ fn push_regulators_of(all: &mut Vec<Normal>, t: &Triangulation, class: usize) ->
     ensures { IfOk result (λ _. HasRegulatorsBelow t.now (suc class) all.new.items) }
 {
     for facet in 0..usize::from(t.dimension()) + 1 {
-        all.push(regulator(t, class, facet))?;
+        if t.neighbour(class, facet).class >= class {
+            all.push(regulator(t, class, facet))?;
+        }
     }
     Ok(())
 }
 
-/// The regulators at the facets of all classes, in the order of classes and facets.
+/// The regulators at the facets of all classes, in the order of classes and facets, those of a pair of classes once.
 fn regulators_of_facets(alloc: Global, t: &Triangulation) -> Result<Vec<Normal>, Memory>
     requires { IsOfSomeForm t.now }
     ensures { IfOk result (λ all. HasRegulatorsBelow t.now (length t.now) all.items) }

@@ -1,15 +1,13 @@
 //! The signs of an excess, number by number.
 
-ghost use Rattle.std.specs.Prelude.{◌≡◌, ◌<◌, ◌≤◌, ◌^◌, suc, ℕ, pos, ◌*ℤ◌, false, ◌∷◌, length, nat_abs};
+ghost use Rattle.std.specs.Prelude.{◌≡◌, ◌<◌, ◌≤◌, ◌^◌, suc, ℕ, ℤ, pos, ◌*ℤ◌, false, List, ◌∷◌, length, nat_abs};
 ghost use Rattle.lt_model.specs.Vectors.{scale};
-ghost use Rattle.lt_model.specs.Cones.{AreBelow};
 ghost use Rattle.lt_model.specs.Forms.{numbers_of_form};
 ghost use Rattle.lt_model.specs.Simplices.{AllOfDimension};
 ghost use Rattle.lt_model.specs.Walls.{excess_normal};
 ghost use Rattle.lt_regulator.specs.Signed.{product_at as product_by, excess_at as excess_by};
 
 use lt_lattice::Point;
-use lt_triang::Expression;
 
 /// The product of two coordinates.
 fn product_at(x: &Point, i: usize, j: usize) -> i64
@@ -21,29 +19,27 @@ fn product_at(x: &Point, i: usize, j: usize) -> i64
     x.coord(i) * x.coord(j)
 }
 
-/// The product of a coefficient, which fits into 64 bits, and a product of coordinates.
-fn term(coefficient: i128, product: i64) -> i128
-    requires coefficient { nat_abs coefficient < 2 ^ 59 }
-    requires product { nat_abs product ≤ 2 ^ 40 }
+/// The product of a coefficient and a product of coordinates.
+fn term(coefficient: i64, product: i64) -> i128
+    requires { nat_abs product ≤ 2 ^ 40 }
     ensures value { result ≡ coefficient *ℤ product }
-    ensures small { nat_abs result ≤ 2 ^ 99 }
+    ensures small { nat_abs result ≤ 2 ^ 103 }
 {
-    (coefficient as i64) as i128 * product as i128
+    i128::from(coefficient) * i128::from(product)
 }
 
-/// The number of the excess of `w` over the simplex `s` at a pair of coordinates, from an expression of `w`.
-fn excess_at(s: &[Point], w: &Point, e: &Expression, i: usize, j: usize) -> i128
+/// The number of the excess of `w` over the simplex `s` at a pair of coordinates, from the numbers of an expression of `w`, the scale first.
+fn excess_at(s: &[Point], w: &Point, numbers: &[i64], i: usize, j: usize) -> i128
     requires few { length s.now ≤ 7 }
     requires points { AllOfDimension (length w.now) s.now }
-    requires one_each { length e.now.coefficients.items ≡ length s.now }
-    requires below { AreBelow (2 ^ 59) (e.now.scale ∷ e.now.coefficients.items) }
+    requires numbers { length numbers.now ≡ suc (length s.now) }
     requires row { i < length w.now }
     requires column { j < length w.now }
-    ensures { result ≡ excess_by i j s.now w.now e.now.scale e.now.coefficients.items }
+    ensures { (c : ℤ) (b : List ℤ) → numbers.now ≡ c ∷ b → result ≡ excess_by i j s.now w.now c b }
 {
-    let mut sum = term(e.scale, product_at(w, i, j));
+    let mut sum = term(numbers[0], product_at(w, i, j));
     for m in 0..s.len() {
-        sum -= term(e.coefficients[m], product_at(&s[m], i, j));
+        sum -= term(numbers[m + 1], product_at(&s[m], i, j));
     }
     sum
 }
@@ -57,22 +53,21 @@ fn same_sign(a: i128, b: i128) -> bool
 
 /// Whether the numbers of the excess have the signs of the normal's, where the normal isn't 0. It stops at the first that hasn't, and most
 /// normals that aren't multiples of the excess differ from it at one of the first numbers.
-pub fn signs_agree(d: usize, s: &[Point], w: &Point, e: &Expression, normal: &[i128]) -> bool
+pub fn signs_agree(d: usize, s: &[Point], w: &Point, numbers: &[i64], normal: &[i128]) -> bool
     requires high { d ≤ 6 }
     requires count { length s.now ≡ suc d }
     requires points { AllOfDimension d s.now }
     requires dimension { length w.now ≡ d }
-    requires one_each { length e.now.coefficients.items ≡ suc d }
-    requires below { AreBelow (2 ^ 59) (e.now.scale ∷ e.now.coefficients.items) }
-    requires numbers { length normal.now ≡ numbers_of_form d }
-    ensures { result ≡ false → (factor : ℕ) → 0 < factor → excess_normal s.now w.now e.now.scale
-        e.now.coefficients.items ≡ scale (pos factor) normal.now → ⊥ }
+    requires numbers { length numbers.now ≡ suc (length s.now) }
+    requires normal { length normal.now ≡ numbers_of_form d }
+    ensures { result ≡ false → (c : ℤ) (b : List ℤ) → numbers.now ≡ c ∷ b → (factor : ℕ) → 0 < factor →
+        excess_normal s.now w.now c b ≡ scale (pos factor) normal.now → ⊥ }
 {
     let mut k = 0;
     for i in 0..d {
         for j in i..d {
             if normal[k] != 0 {
-                if !same_sign(excess_at(s, w, e, i, j), normal[k]) {
+                if !same_sign(excess_at(s, w, numbers, i, j), normal[k]) {
                     return false;
                 }
             }

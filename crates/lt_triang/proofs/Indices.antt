@@ -1,16 +1,16 @@
 -- The index of facets: how it grows, and why the first facet in a bucket is the first of all.
-use Rattle.std.proofs.Common.{◌≡◌, ℕ, suc, ℤ, ◌<◌, refl, ap, arith, sym, ◌∙◌, subst, List, [], ◌∷◌, ◌++◌, inl, inr, ◌⊎◌, length, get_or, set, Vec, Option, None, Some, ◌≤◌}
+use Rattle.std.proofs.Common.{◌≡◌, ℕ, suc, ℤ, ◌<◌, refl, ap, ap₂, arith, sym, ◌∙◌, subst, List, [], ◌∷◌, ◌++◌, inl, inr, ◌⊎◌, length, get_or, set, Vec, Option, None, Some, ◌≤◌}
 use Rattle.std.specs.List.{Contains}
 use Rattle.std.proofs.lemmas.Bool.{cases_eq, cases_lt, cases_order}
 use Rattle.std.proofs.lemmas.List.{get_or_append_left, get_or_push, length_push, get_or-set_same, get_or-set_other, length-set, length-map, map-set, get_or-map, get_or_default}
 use Rattle.std.proofs.lemmas.List.Elements.{Contains-append_left, Contains-push, Contains-get_or}
 use Rattle.lt_model.specs.Simplices.{IsClass}
-use Rattle.std.specs.Option.{MatchOption, IfSome}
-use Rattle.lt_triang.specs.declared.neighbours.Across.{Across}
-use Rattle.lt_triang.specs.Across.{IsFacing, IsNotFacing, IsOpen, IsFirstAcross}
+use Rattle.lt_triang.specs.Across.{IsFacing, IsNotFacing, IsOpen}
 use Rattle.lt_triang.specs.Codes.{bucket_of}
-use Rattle.lt_triang.specs.Indexed.{buckets_of, IsEarlier, entry_at, IsIndexBelow, IsIndex, ArePlaces, AreNotFacing, IsFirstIn, HasOuter, IsKept}
+use Rattle.lt_triang.specs.Indexed.{buckets_of, IsEarlier, entry_at, IsIndexBelow, IsIndex, ArePlaces, AreNotFacing}
 use Rattle.lt_triang.specs.Kept.{AreClasses}
+use Rattle.lt_triang.specs.Walled.{IsWall, IsWallTo, IsFirstIn, IsFirstAnswer, IsAcrossAnswer}
+use Rattle.lt_triang.specs.declared.walls.Wall.{Wall}
 use Rattle.lt_triang.proofs.Coded.{same_bucket}
 
 abbrev Facet : Type 0
@@ -156,41 +156,55 @@ none_found d t bs n i h x none m j lm lj p f = at (stands d t bs n i m j p h x l
         let e' : get_or fs q (0, 0) ≡ (m, j) = get_or_default fs q (0, 0) (m, j) lq ∙ e in
         none q lq p (subst (λ (a : Facet). IsFacing d (get_or t n []) i (get_or t a.0 []) p a.1) (sym e') f)
 
-pub first_found : (d : ℕ) (t : List (List (List ℤ))) (bs : List (List Facet)) (n i m : ℕ) (p : List ℤ) (j : ℕ) → AreClasses d t → IsIndex d t bs → IsFirstIn d t (get_or t n []) i (get_or bs (bucket_of t n i) []) m p j → IsFirstAcross d t (get_or t n []) i m p j
-first_found d t bs n i m p j h x f = record {
-  member = subst (λ (a : Facet). a.0 < length t) f.entry (index_places d t bs (bucket_of t n i) x f.at f.within).0;
-  place = place;
-  facing = f.facing;
-  earlier = λ m' k lm lk. not m' k (omega (arith, lm, member)) lk (inl lm);
-  before = λ k lk. not m k member (omega (arith, lk, place)) (inr (refl, lk));
+pub first_found : (d : ℕ) (t : List (List (List ℤ))) (bs : List (List Facet)) (n i : ℕ) (w : Wall) → AreClasses d t → IsIndex d t bs → IsFirstIn d t (get_or t n []) i (get_or bs (bucket_of t n i) []) w → IsWall d t (get_or t n []) i w
+first_found d t bs n i w h x f = record {
+  scale = told.scale;
+  coefficients = told.coefficients;
+  first = record {
+    member = member;
+    place = place;
+    facing = told.facing;
+    earlier = λ m k lm lk. not m k (omega (arith, lm, member)) lk (inl lm);
+    before = λ k lk. not w.class k member (omega (arith, lk, place)) (inr (refl, lk));
+  };
+  outer = told.outer;
+  numbers = told.numbers;
 }
   where
     fs : List Facet
     fs = get_or bs (bucket_of t n i) []
 
-    member : m < length t
-    member = subst (λ (a : Facet). a.0 < length t) f.entry (index_places d t bs (bucket_of t n i) x f.at f.within).0
+    found : Facet
+    found = get_or fs f.at (0, 0)
 
-    place : j < suc d
-    place = subst (λ (a : Facet). a.1 < suc d) f.entry (index_places d t bs (bucket_of t n i) x f.at f.within).1
+    entry : found ≡ (w.class, w.vertex)
+    entry = ap₂ (λ (m j : ℕ). (m, j)) (sym f.told.class) (sym f.told.vertex)
 
-    not : (m' k : ℕ) → m' < length t → k < suc d → IsEarlier (m', k) (m, j) → IsNotFacing d (get_or t n []) i (get_or t m' []) k
-    not m' k lm lk e r g = at (stands d t bs n i m' k r h x lm lk g)
+    told : IsWallTo d t (get_or t n []) i w.class w.vertex w
+    told = subst (λ (a : Facet). IsWallTo d t (get_or t n []) i a.0 a.1 w) entry f.told
+
+    member : w.class < length t
+    member = subst (λ (a : Facet). a.0 < length t) entry (index_places d t bs (bucket_of t n i) x f.at f.within).0
+
+    place : w.vertex < suc d
+    place = subst (λ (a : Facet). a.1 < suc d) entry (index_places d t bs (bucket_of t n i) x f.at f.within).1
+
+    not : (m k : ℕ) → m < length t → k < suc d → IsEarlier (m, k) (w.class, w.vertex) → IsNotFacing d (get_or t n []) i (get_or t m []) k
+    not m k lm lk e r g = at (stands d t bs n i m k r h x lm lk g)
       where
-        at : Contains fs (m', k) → ⊥
+        at : Contains fs (m, k) → ⊥
         at (q, lq, c) =
-            let c' : get_or fs q (0, 0) ≡ (m', k) = get_or_default fs q (0, 0) (m', k) lq ∙ c in
+            let c' : get_or fs q (0, 0) ≡ (m, k) = get_or_default fs q (0, 0) (m, k) lq ∙ c in
             elim (cases_order q f.at) [
-              | inl same ↦ not_itself (m, j) (subst (λ (a : Facet). IsEarlier a (m, j)) (sym c' ∙ ap (λ y. get_or fs y (0, 0)) same ∙ f.entry) e)
+              | inl same ↦ not_itself (w.class, w.vertex) (subst (λ (a : Facet). IsEarlier a (w.class, w.vertex)) (sym c' ∙ ap (λ y. get_or fs y (0, 0)) same ∙ entry) e)
               | inr (inl less) ↦ f.before q less r (subst (λ (a : Facet). IsFacing d (get_or t n []) i (get_or t a.0 []) r a.1) (sym c') g)
-              | inr (inr more) ↦ not_both (m', k) (m, j) e (subst (λ (a : Facet). IsEarlier a (m', k)) f.entry (subst (λ (a : Facet). IsEarlier (get_or fs f.at (0, 0)) a) c' (x.ascending (bucket_of t n i) f.at q more lq)))
+              | inr (inr more) ↦ not_both (m, k) (w.class, w.vertex) e (subst (λ (a : Facet). IsEarlier a (m, k)) entry (subst (λ (a : Facet). IsEarlier found a) c' (x.ascending (bucket_of t n i) f.at q more lq)))
             ]
 
-pub first_of_all : (d : ℕ) (t : List (List (List ℤ))) (bs : List (List Facet)) (n i : ℕ) → AreClasses d t → IsIndex d t bs → (r : Option Across) →
-    MatchOption r (AreNotFacing d t (get_or t n []) i (get_or bs (bucket_of t n i) []) (length (get_or bs (bucket_of t n i) []))) (λ (a : Across). IsFirstIn d t (get_or t n []) i (get_or bs (bucket_of t n i) []) a.neighbour.class a.neighbour.shift a.neighbour.vertex) →
-    IfSome r (HasOuter t (get_or t n [])) → MatchOption r (IsOpen d t (get_or t n []) i) (IsKept d t (get_or t n []) i)
-first_of_all d t bs n i h x None k o = none_found d t bs n i h x k
-first_of_all d t bs n i h x (Some a) k o = record { first = first_found d t bs n i a.neighbour.class a.neighbour.shift a.neighbour.vertex h x k; outer = o }
+pub first_of_all : (d : ℕ) (t : List (List (List ℤ))) (bs : List (List Facet)) (n i : ℕ) → AreClasses d t → IsIndex d t bs → (r : Option Wall) →
+    IsFirstAnswer d t (get_or t n []) i (get_or bs (bucket_of t n i) []) r → IsAcrossAnswer d t (get_or t n []) i r
+first_of_all d t bs n i h x None k = none_found d t bs n i h x k
+first_of_all d t bs n i h x (Some w) k = first_found d t bs n i w h x k
 
 -- ---- buckets as they are kept
 

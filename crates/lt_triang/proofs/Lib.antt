@@ -18,3 +18,4 @@ pub mod Indices
 pub mod Rowed
 pub mod Itself
 pub mod Walled
+pub mod Mirrored

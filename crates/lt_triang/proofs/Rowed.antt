@@ -3,13 +3,12 @@ use Rattle.std.proofs.Common.{◌≡◌, ℕ, suc, ℤ, ◌<◌, ◌-◌, ◌+�
 use Rattle.std.proofs.lemmas.Bool.{cases_lt}
 use Rattle.std.proofs.lemmas.List.{get_or_append_left, get_or_push, get_or_read, length_push}
 use Rattle.std.proofs.lemmas.List.Elements.{Contains-get_or}
-use Rattle.lt_triang.specs.Across.{IsFirstAcross, HasAcross, IsFirstOpenOf, IsFirstOpen}
+use Rattle.lt_triang.specs.Across.{IsFacing, HasAcross, IsFirstOpenOf, IsFirstOpen}
 use Rattle.lt_model.specs.Vectors.{plus}
 use Rattle.lt_model.specs.Simplices.{IsClass, IsExpression}
 use Rattle.lt_triang.specs.Kept.{IsTriangulation, AreClasses}
-use Rattle.lt_triang.specs.Indexed.{IsKept}
-use Rattle.lt_triang.specs.Walled.{IsWallOf, shift_to, vertex_to, IsWall, IsRow, AreRows}
-use Rattle.lt_triang.specs.declared.neighbours.Across.{Across}
+use Rattle.lt_triang.specs.Indexed.{IsOuterIn}
+use Rattle.lt_triang.specs.Walled.{IsWallOf, IsWallTo, shift_to, vertex_to, IsWall, IsRow, AreRows}
 use Rattle.lt_triang.specs.declared.walls.Wall.{Wall}
 use Rattle.lt_triang.proofs.Expressed.{member_dimension}
 use Rattle.lt_triang.proofs.Shifts.{only_shift, count_without}
@@ -18,21 +17,21 @@ use Rattle.lt_triang.proofs.Shifts.{only_shift, count_without}
 pub some_wall : Wall
 some_wall = record { class = 0; vertex = 0; numbers = record { items = [] } }
 
--- the wall that is made of the first member across a facet
-pub wall_made : (d : ℕ) (t : List (List (List ℤ))) (s : List (List ℤ)) (i : ℕ) (a : Across) (w : Wall) → AreClasses d t → IsKept d t s i a → IsWallOf a w → IsWall d t s i w
-wall_made d t s i a w h k of =
-    let n = a.neighbour.class in
-    let j = a.neighbour.vertex in
-    let p = a.neighbour.shift in
-    let next : List (List ℤ) = get_or t n [] in
-    let c : IsClass d next = h.classes next (Contains-get_or t n [] k.first.member) in
-    let e : p ≡ shift_to s i next j = (only_shift d s i next j p c.simplex.points (count_without d j next h.low c.simplex.count k.first.place) k.first.facing).0 in
-    let v : a.outer.vertex ≡ vertex_to s i next j = k.outer.vertex ∙ ap (plus (get_or next j [])) e in
+-- the wall that is made where a facet is found to lie across
+pub wall_made : (d : ℕ) (t : List (List (List ℤ))) (s : List (List ℤ)) (i m j : ℕ) (p v : List ℤ) (c : ℤ) (b : List ℤ) (w : Wall) → AreClasses d t → m < length t → j < suc d →
+    IsFacing d s i (get_or t m []) p j → IsOuterIn s (get_or t m []) p j v c b → IsWallOf m j c b w → IsWallTo d t s i m j w
+wall_made d t s i m j p v c b w h lm lj f o of =
+    let next : List (List ℤ) = get_or t m [] in
+    let k : IsClass d next = h.classes next (Contains-get_or t m [] lm) in
+    let e : p ≡ shift_to s i next j = (only_shift d s i next j p k.simplex.points (count_without d j next h.low k.simplex.count lj) f).0 in
+    let same : v ≡ vertex_to s i next j = o.vertex ∙ ap (plus (get_or next j [])) e in
     record {
-      scale = a.outer.expression.scale;
-      coefficients = a.outer.expression.coefficients.items;
-      first = rw (of.class, of.vertex) (subst (λ (q : List ℤ). IsFirstAcross d t s i n q j) e k.first);
-      outer = rw (of.class, of.vertex) (record { vertex = refl; expression = subst (λ (x : List ℤ). IsExpression s x a.outer.expression.scale a.outer.expression.coefficients.items) v k.outer.expression; primitive = k.outer.primitive; below = k.outer.below });
+      class = of.class;
+      vertex = of.vertex;
+      scale = c;
+      coefficients = b;
+      facing = subst (λ (q : List ℤ). IsFacing d s i next q j) e f;
+      outer = record { vertex = refl; expression = subst (λ (x : List ℤ). IsExpression s x c b) same o.expression; primitive = o.primitive; below = o.below };
       numbers = of.numbers;
     }
 
@@ -50,16 +49,20 @@ rows_across d t n rows h m i lm li =
     let w : Wall = get_or (get_or rows m []) i some_wall in
     (w.class, shift_to (get_or t m []) i (get_or t w.class []) w.vertex, w.vertex, ((h.each m lm).each i some_wall li).first)
 
+-- the wall at a place of a row
+pub row_wall : (d : ℕ) (t : List (List (List ℤ))) (n : ℕ) (rows : List (List Wall)) (m j : ℕ) (row : List Wall) (w : Wall) → AreRows d t n rows → m < n → j < suc d → row ≡ get_or rows m row → w ≡ get_or row j w → IsWall d t (get_or t m []) j w
+row_wall d t n rows m j row w k lm lj er e =
+    let r : IsRow d t (get_or t m []) (get_or rows m []) = k.each m lm in
+    let mine : row ≡ get_or rows m [] = get_or_read rows m row (omega (arith, lm, k.count)) er [] in
+    let same : get_or (get_or rows m []) j w ≡ w = subst (λ (x : List Wall). get_or x j w ≡ w) mine (sym e) in
+    subst (λ (x : Wall). IsWall d t (get_or t m []) j x) same (r.each j w lj)
+
 pub kept_wall : (d : ℕ) (t : List (List (List ℤ))) (rows : List (List Wall)) (c f : ℕ) (row : List Wall) (a : Wall) → IsTriangulation d t → AreRows d t (length t) rows → c < length t → f < length (get_or t c []) →
     row ≡ get_or rows c row → a ≡ get_or row f a → IsWall (length (get_or t c []) - 1) t (get_or t c []) f a
 kept_wall d t rows c f row a h k lc lf er e =
     let l : length (get_or t c []) ≡ suc d = member_dimension d t c h lc in
     let dim : d ≡ length (get_or t c []) - 1 = omega (arith, l) in
-    let r : IsRow d t (get_or t c []) (get_or rows c []) = k.each c lc in
-    let mine : row ≡ get_or rows c [] = get_or_read rows c row (omega (arith, lc, k.count)) er [] in
-    let same : get_or (get_or rows c []) f a ≡ a = subst (λ (x : List Wall). get_or x f a ≡ a) mine (sym e) in
-    let told = r.each f a (omega (arith, lf, l)) in
-    subst (λ (n : ℕ). IsWall n t (get_or t c []) f a) dim (subst (λ (x : Wall). IsWall d t (get_or t c []) f x) same told)
+    subst (λ (n : ℕ). IsWall n t (get_or t c []) f a) dim (row_wall d t (length t) rows c f row a k lc (omega (arith, lf, l)) er e)
 
 pub rows_pushed : (d : ℕ) (t : List (List (List ℤ))) (n : ℕ) (rows : List (List Wall)) (row : List Wall) → AreRows d t n rows → IsRow d t (get_or t n []) row → AreRows d t (n + 1) (rows ++ row ∷ [])
 rows_pushed d t n rows row h r = record {

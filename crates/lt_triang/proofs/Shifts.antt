@@ -16,7 +16,7 @@ use Rattle.lt_model.proofs.Points.{get_dimension}
 use Rattle.lt_triang.specs.Bounds.{AreWithin, AreNear}
 use Rattle.lt_triang.specs.Across.{IsFacing, IsNotFacing}
 
-pub remove_is : (vs : List (List ℤ)) (i : ℕ) → remove vs i ≡ without i vs
+pub remove_is : {X : Type 0} (vs : List X) (i : ℕ) → remove vs i ≡ without i vs
 remove_is [] zero = refl
 remove_is [] (suc i) = refl
 remove_is (v ∷ vs) zero = refl

@@ -1,7 +1,7 @@
 -- An index of facets, and the first of them that lies across a facet.
 use Rattle.std.specs.Prelude.{ℕ, suc, ℤ, ◌<◌, ◌≡◌, ◌⊎◌, ◌^◌, ◌*◌, ◌∷◌, List, [], map, length, get_or, Vec}
 use Rattle.std.specs.List.{Contains}
-use Rattle.lt_triang.specs.Across.{IsFacing, IsNotFacing, IsFirstAcross}
+use Rattle.lt_triang.specs.Across.{IsNotFacing, IsFirstAcross}
 use Rattle.lt_triang.specs.Codes.{bucket_of}
 use Rattle.lt_triang.specs.declared.neighbours.Across.{Across}
 use Rattle.lt_model.specs.Cones.{AreBelow}
@@ -43,14 +43,6 @@ ArePlaces d t fs = (q : ℕ) → q < length fs → ((get_or fs q (0, 0)).0 < len
 abbrev pub AreNotFacing : ℕ → List (List (List ℤ)) → List (List ℤ) → ℕ → List (ℕ × ℕ) → ℕ → Type 0
 AreNotFacing d t s i fs n =
     (q : ℕ) → q < n → IsNotFacing d s i (get_or t (get_or fs q (0, 0)).0 []) (get_or fs q (0, 0)).1
-
--- facet j of the class at place n, moved by p, is the first of the facets that lies across the facet
-pub record IsFirstIn (d : ℕ) (t : List (List (List ℤ))) (s : List (List ℤ)) (i : ℕ) (fs : List (ℕ × ℕ)) (n : ℕ) (p : List ℤ) (j : ℕ) : Type 0 where
-  pub at : ℕ
-  pub within : at < length fs
-  pub entry : get_or fs at (0, 0) ≡ (n, j)
-  pub facing : IsFacing d s i (get_or t n []) p j
-  pub before : AreNotFacing d t s i fs at
 
 -- w is vertex j of the class next, moved by p, with its expression over the class s in lowest terms
 pub record IsOuterIn (s next : List (List ℤ)) (p : List ℤ) (j : ℕ) (w : List ℤ) (c : ℤ) (b : List ℤ) : Type 0 where

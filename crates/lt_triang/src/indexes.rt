@@ -1,17 +1,20 @@
 //! An index of the facets of classes: facets that are translates of one another stand in one bucket.
 
 ghost use Rattle.std.specs.Prelude.{◌≡◌, ◌<◌, ◌≤◌, ◌*◌, ◌^◌, ◌++◌, map, ◌∷◌, suc, ℕ, List, [], length, get_or, set, IfOk, IfSome, MatchOption};
-ghost use Rattle.lt_triang.specs.Across.{IsOpen, IsFacing, IsNotFacing};
+ghost use Rattle.lt_triang.specs.Across.{IsFacing, IsNotFacing};
 ghost use Rattle.std.specs.List.{All};
 ghost use Rattle.lt_lattice.specs.Ranges.{IsWithin};
 ghost use Rattle.lt_triang.specs.Codes as model;
 ghost use Rattle.lt_triang.specs.Flat.{columns_of};
-ghost use Rattle.lt_triang.specs.Indexed.{buckets_of, IsIndexBelow, IsIndex, ArePlaces, AreNotFacing, IsFirstIn, IsOuterIn, HasOuter, IsKept};
+ghost use Rattle.lt_triang.specs.Indexed.{buckets_of, IsIndexBelow, IsIndex, ArePlaces, IsOuterIn};
 ghost use Rattle.lt_triang.specs.Kept.{AreClasses};
+ghost use Rattle.lt_triang.specs.Walled.{AreRows, IsWallAnswer, IsFirstAnswer, IsAcrossAnswer};
 
 use crate::classes::Class;
 use crate::codes::{facet_code, point_codes};
-use crate::neighbours::{Across, Neighbour, Outer, class_at, facing, member};
+use crate::neighbours::{Outer, class_at, facing, member};
+use crate::rows::Row;
+use crate::walls::Wall;
 use lt_lattice::Point;
 use lt_model::Memory;
 use lt_solve::Columns;
@@ -126,35 +129,69 @@ fn facing_at(
     }
 }
 
+/// The wall that names facet `vertex` of the class at place `class`, if it lies across facet `i` of the class at place `n`. Where `rows`, those
+/// of the classes before it, name facet `i` on the other side, it is read from there: to solve the equation is the dearest part.
+fn wall_at(
+    d: usize,
+    classes: &[Class],
+    rows: &[Row],
+    n: usize,
+    columns: &Columns,
+    i: usize,
+    class: usize,
+    vertex: usize,
+) -> Result<Option<Wall>, Memory>
+    requires members { AreClasses d classes.now }
+    requires rows { AreRows d classes.now n rows.now }
+    requires class { n < length classes.now }
+    requires columns { columns.now ≡ columns_of (get_or classes.now n []) }
+    requires place { i < suc d }
+    requires class_too { class < length classes.now }
+    requires place_too { vertex < suc d }
+    ensures { IfOk result (IsWallAnswer d classes.now (get_or classes.now n []) i class vertex) }
+{
+    if class < n {
+        let wall = rows[class].at(vertex);
+        if wall.class as usize == n && usize::from(wall.vertex) == i {
+            if let Some(mirrored) = wall.mirrored(class, vertex) {
+                return Ok(Some(mirrored));
+            }
+        }
+    }
+    match facing_at(d, classes, n, columns, i, class, vertex) {
+        Some((_shift, outer)) => {
+            let wall = Wall::of(class, vertex, &outer.expression)?;
+            Ok(Some(wall))
+        }
+        None => Ok(None),
+    }
+}
+
 /// The first of the facets that lies across facet `i` of the class at place `n`.
 fn first_in(
     d: usize,
     classes: &[Class],
+    rows: &[Row],
     n: usize,
     columns: &Columns,
     i: usize,
     facets: &[(usize, usize)],
-) -> Option<Across>
+) -> Result<Option<Wall>, Memory>
     requires members { AreClasses d classes.now }
+    requires rows { AreRows d classes.now n rows.now }
     requires class { n < length classes.now }
     requires columns { columns.now ≡ columns_of (get_or classes.now n []) }
     requires place { i < suc d }
     requires facets { ArePlaces d classes.now facets.now }
-    ensures first { MatchOption result (AreNotFacing d classes.now (get_or classes.now n []) i facets.now (length facets.now)) (λ a. IsFirstIn d classes.now (get_or classes.now n []) i facets.now a.neighbour.class a.neighbour.shift a.neighbour.vertex) }
-    ensures outer { IfSome result (HasOuter classes.now (get_or classes.now n [])) }
+    ensures { IfOk result (IsFirstAnswer d classes.now (get_or classes.now n []) i facets.now) }
 {
     for q in 0..facets.len() {
         let (class, vertex) = facets[q];
-        if let Some((shift, outer)) = facing_at(d, classes, n, columns, i, class, vertex) {
-            let neighbour = Neighbour {
-                class,
-                shift,
-                vertex,
-            };
-            return Some(Across { neighbour, outer });
+        if let Some(wall) = wall_at(d, classes, rows, n, columns, i, class, vertex)? {
+            return Ok(Some(wall));
         }
     }
-    None
+    Ok(None)
 }
 
 /// The first member across facet `i` of the class at place `n`, in the order of members and vertices.
@@ -162,21 +199,23 @@ pub fn first_across(
     d: usize,
     classes: &[Class],
     index: &[Vec<(usize, usize)>],
+    rows: &[Row],
     n: usize,
     codes: &[i64],
     columns: &Columns,
     i: usize,
-) -> Option<Across>
+) -> Result<Option<Wall>, Memory>
     requires members { AreClasses d classes.now }
     requires index { IsIndex d classes.now (buckets_of index.now) }
+    requires rows { AreRows d classes.now n rows.now }
     requires class { n < length classes.now }
     requires codes { codes.now ≡ map model.point_code (get_or classes.now n []) }
     requires small { All (IsWithin (2 ^ 45)) codes.now }
     requires columns { columns.now ≡ columns_of (get_or classes.now n []) }
     requires place { i < suc d }
-    ensures { MatchOption result (IsOpen d classes.now (get_or classes.now n []) i) (IsKept d classes.now (get_or classes.now n []) i) }
+    ensures { IfOk result (IsAcrossAnswer d classes.now (get_or classes.now n []) i) }
 {
     let bucket = bucket_of(d, classes, n, codes, i);
     let facets = index[bucket].as_slice();
-    first_in(d, classes, n, columns, i, facets)
+    first_in(d, classes, rows, n, columns, i, facets)
 }

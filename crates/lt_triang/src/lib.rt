@@ -17,6 +17,6 @@ mod walls;
 pub use classes::{Class, Flat};
 pub use errors::TriangError;
 pub use expressions::Expression;
-pub use neighbours::{Neighbour, Outer};
+pub use neighbours::{Neighbour, Outer, member};
 pub use spans::{are_near, span_limit, span_of};
-pub use triangulations::Triangulation;
+pub use triangulations::{Triangulation, sorted_distinct};

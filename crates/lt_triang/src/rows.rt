@@ -1,18 +1,17 @@
 //! The neighbours at the facets of each class.
 
-ghost use Rattle.std.specs.Prelude.{◌≡◌, ◌<◌, ◌≤◌, ◌++◌, ◌∷◌, suc, ℕ, List, [], length, get_or, IfOk};
+ghost use Rattle.std.specs.Prelude.{◌≡◌, ◌<◌, ℕ, List, [], length, get_or, IfOk};
 ghost use Rattle.lt_triang.specs.Across.{IsFirstOpenOf, IsFirstOpen};
 ghost use Rattle.lt_triang.specs.Indexed.{buckets_of, IsIndex};
 ghost use Rattle.lt_triang.specs.Kept.{AreClasses};
-ghost use Rattle.lt_triang.specs.Walled.{IsWallOf, IsRow, AreRows};
-ghost use Rattle.lt_triang.specs.declared.walls.Wall.{Wall};
+ghost use Rattle.lt_triang.specs.Walled.{IsRow, AreRows};
 ghost use Rattle.lt_triang.specs.declared.errors.TriangError.TheVariants.{OpenFacet};
 
 use crate::classes::Class;
 use crate::codes::point_codes;
 use crate::errors::TriangError;
 use crate::indexes::{first_across, index_of};
-use crate::neighbours::{Across, class_at, member};
+use crate::neighbours::{class_at, member};
 use crate::walls::Wall;
 use lt_model::Memory;
 use std::alloc::Global;
@@ -54,29 +53,18 @@ impl Row {
     }
 }
 
-/// Appends the neighbour as it is kept.
-fn push_wall(facets: &mut Vec<Wall>, across: &Across) -> Result<(), Memory>
-    ensures { IfOk result (λ _. (w : Wall) × IsWallOf across.now w × (facets.new.items ≡ facets.old.items ++ w ∷ [])) }
-{
-    match Wall::of(across) {
-        Some(wall) => match facets.push(wall) {
-            Ok(()) => Ok(()),
-            Err(_) => Err(Memory),
-        },
-        None => Err(Memory),
-    }
-}
-
-/// The neighbours of the class at place `n`, or the first of its facets that is open.
+/// The neighbours of the class at place `n`, or the first of its facets that is open. `rows` are those of the classes before it.
 fn row_of(
     alloc: Global,
     d: usize,
     classes: &[Class],
     index: &[Vec<(usize, usize)>],
+    rows: &[Row],
     n: usize,
 ) -> Result<Row, TriangError>
     requires members { AreClasses d classes.now }
     requires index { IsIndex d classes.now (buckets_of index.now) }
+    requires rows { AreRows d classes.now n rows.now }
     requires class { n < length classes.now }
     ensures row { IfOk result (IsRow d classes.now (get_or classes.now n [])) }
     ensures open { (class facet : ℕ) → result ≡ Err (OpenFacet class facet) → (class ≡ n) × IsFirstOpenOf d classes.now (get_or classes.now n []) facet }
@@ -88,12 +76,13 @@ fn row_of(
         Err(_) => return Err(TriangError::Memory),
     };
     for i in 0..d + 1 {
-        match first_across(d, classes, index, n, codes.as_slice(), &columns, i) {
-            Some(found) => match push_wall(&mut facets, &found) {
+        match first_across(d, classes, index, rows, n, codes.as_slice(), &columns, i) {
+            Ok(Some(wall)) => match facets.push(wall) {
                 Ok(()) => {}
                 Err(_) => return Err(TriangError::Memory),
             },
-            None => return Err(TriangError::OpenFacet { class: n, facet: i }),
+            Ok(None) => return Err(TriangError::OpenFacet { class: n, facet: i }),
+            Err(_) => return Err(TriangError::Memory),
         }
     }
     Ok(Row { facets })
@@ -114,7 +103,7 @@ pub fn rows_of(alloc: Global, d: usize, classes: &[Class]) -> Result<Vec<Row>, T
         Err(_) => return Err(TriangError::Memory),
     };
     for n in 0..classes.len() {
-        match row_of(alloc, d, classes, &index, n) {
+        match row_of(alloc, d, classes, &index, &rows, n) {
             Ok(row) => match rows.push(row) {
                 Ok(()) => {}
                 Err(_) => return Err(TriangError::Memory),

@@ -49,7 +49,7 @@ impl Model for Triangulation {
 }
 
 /// The classes in ascending order, each once.
-fn sorted_distinct(given: Vec<Class>) -> Vec<Class>
+pub fn sorted_distinct(given: Vec<Class>) -> Vec<Class>
     ensures ascending { IsStrictlySortedBy simplex_cmp result.items }
     ensures members { (s : List (List ℤ)) → Contains result.items s ↔ Contains given.items s }
 {
@@ -113,6 +113,20 @@ impl Triangulation {
         })
     }
 
+    /// The triangulation of classes that ascend and are known to be closed under facets.
+    pub fn of_closed(classes: Vec<Class>) -> Result<Triangulation, Memory>
+        requires { IsTriangulation (dimension_of classes.items) classes.items }
+        ensures { IfOk result (λ t. t ≡ classes.items) }
+    {
+        let d = dimension_of(classes.as_slice());
+        let alloc = *classes.allocator();
+        match rows_of(alloc, d, classes.as_slice()) {
+            Ok(rows) => Ok(Triangulation { classes, rows }),
+            Err(TriangError::Memory) => Err(Memory),
+            Err(TriangError::OpenFacet { class: _, facet: _ }) => unreachable!(),
+        }
+    }
+
     /// The number of coordinates of a vertex.
     pub fn dimension(&self) -> u8
         ensures { IsTriangulation result self.now }
@@ -133,6 +147,13 @@ impl Triangulation {
         ensures { result.now ≡ get_or self.now i [] }
     {
         &self.classes[i]
+    }
+
+    /// The classes, in ascending order.
+    pub fn classes(&self) -> &[Class]
+        ensures { result.now ≡ self.now }
+    {
+        &self.classes
     }
 
     /// The greatest span of a class.
@@ -235,7 +256,10 @@ impl Triangulation {
         ensures dimension { length result ≡ dimension_of self.now }
         ensures near { All (IsWithin (2 * span_limit (dimension_of self.now))) result }
     {
-        self.outer(class, facet).vertex
+        let _dimension = self.dimension();
+        let neighbour = self.neighbour(class, facet);
+        let next = member(self.classes.as_slice(), neighbour.class);
+        vertex_moved(next, neighbour.vertex, &neighbour.shift)
     }
 
     /// A copy, or Memory where memory was refused.

@@ -1,11 +1,11 @@
 //! Neighbours as they are kept, in little room.
 
-ghost use Rattle.std.specs.Prelude.{◌≡◌, ◌≤◌, ◌∷◌, length, IfSome};
-ghost use Rattle.lt_triang.specs.Walled.{AreKept, IsWallOf};
+ghost use Rattle.std.specs.Prelude.{◌≡◌, ◌≤◌, ◌∷◌, length, IfOk, IfSome};
+ghost use Rattle.lt_triang.specs.Walled.{AreKept, IsWallOf, HasPlaces, IsMirrored};
 
 use crate::expressions::Expression;
-use crate::neighbours::Across;
 use arrayvec::ArrayVec;
+use lt_model::Memory;
 
 /// A neighbour at a facet as it is kept: its shift and its vertex outside follow from the classes.
 #[derive(Drop)]
@@ -38,19 +38,41 @@ fn narrow(scale: i128, coefficients: &[i128]) -> ArrayVec<i8, 8>
 }
 
 impl Wall {
-    /// The neighbour as it is kept, or None where its place doesn't fit.
-    pub fn of(across: &Across) -> Option<Wall>
-        ensures { IfSome result (IsWallOf across.now) }
+    /// Facet `vertex` of the class at place `class`, whose vertex outside has this expression, as it is kept. Places that don't fit are refused
+    /// as memory is, since so long a list of classes has no room either.
+    pub fn of(class: usize, vertex: usize, expression: &Expression) -> Result<Wall, Memory>
+        ensures { IfOk result (IsWallOf class vertex expression.now.scale expression.now.coefficients.items) }
     {
-        let expression = &across.outer.expression;
-        match (
-            u32::try_from(across.neighbour.class),
-            u8::try_from(across.neighbour.vertex),
-        ) {
-            (Ok(class), Ok(vertex)) => Some(Wall {
+        match (u32::try_from(class), u8::try_from(vertex)) {
+            (Ok(class), Ok(vertex)) => Ok(Wall {
                 class,
                 vertex,
                 numbers: narrow(expression.scale, expression.coefficients.as_slice()),
+            }),
+            _ => Err(Memory),
+        }
+    }
+
+    /// The same facet seen from the other side, where this is the wall of facet `facet` of the class at place `class`. One equation tells of
+    /// the vertices on both sides, so the numbers change places and nothing is solved. None where no numbers are kept, or something doesn't
+    /// fit.
+    pub fn mirrored(&self, class: usize, facet: usize) -> Option<Wall>
+        requires { HasPlaces self.now facet }
+        ensures { IfSome result (IsMirrored self.now class facet) }
+    {
+        if self.numbers.is_empty() {
+            return None;
+        }
+        let mut numbers = self.copy().numbers;
+        let scale = numbers.remove(0).checked_neg()?;
+        let turned = numbers.remove(facet).checked_neg()?;
+        numbers.insert(usize::from(self.vertex), scale);
+        numbers.insert(0, turned);
+        match (u32::try_from(class), u8::try_from(facet)) {
+            (Ok(class), Ok(vertex)) => Some(Wall {
+                class,
+                vertex,
+                numbers,
             }),
             _ => None,
         }

@@ -47,7 +47,7 @@ returns-then-not-all_go c = λ w m.
     let square : IsSquare d (rows d c.in-Some.u) = rows_square d c.in-Some.u c.in-Some.ensures.size in
     let takes = taking d from to c.in-Some.u c.as_slice.result.now c.targets-targets.result.items c.args.s.now c.args.order.now c.as_slice.ensures.value c.targets-targets.ensures (c.in-Some.ensures.taking (get_or from 0 []) s.simplex s.first c.requires.basis) in
     let all = match_goes d from to c.args.s.now c.args.order.now (rows d c.in-Some.u) c.requires.origin c.requires.target c.requires.member c.requires.order square takes w m in
-    false≢true (sym c.if-not-all_go.true ∙ c.all_go.ensures.1 (λ n _ l. all n l))
+    false≢true (sym c.if-not-all_go.true ∙ (rw c.classes.ensures at c.all_go.ensures).1 (λ n _ l. all n l))
 
 pub comes_back-requires-clause-count : goal.comes_back-requires-clause-count
 comes_back-requires-clause-count c = let s = first_class c.args.d c.args.from.now c.requires.origin in rw (c.vertices.ensures, c.class.ensures) s.simplex.count
@@ -102,5 +102,5 @@ returns c =
     let takes = taking d from to c.in-Some.u c.as_slice.result.now c.targets-targets.result.items c.args.s.now c.args.order.now c.as_slice.ensures.value c.targets-targets.ensures (c.in-Some.ensures.taking (get_or from 0 []) s.simplex s.first c.requires.basis) in
     let told = rw (c.vertices.ensures, c.class.ensures, c.as_slice-2.ensures.value, c.targets-targets.ensures) at c.comes_back.ensures in (
       c.in-Some.ensures.size,
-      match_made d from to c.args.s.now c.args.order.now (rows d c.in-Some.u) c.requires.origin c.requires.target c.requires.member c.requires.order square takes c.requires.count (c.all_go.ensures.0 c.if-not-all_go.false) (told.0 c.if-not-comes_back.false),
+      match_made d from to c.args.s.now c.args.order.now (rows d c.in-Some.u) c.requires.origin c.requires.target c.requires.member c.requires.order square takes c.requires.count ((rw c.classes.ensures at c.all_go.ensures).0 c.if-not-all_go.false) (told.0 c.if-not-comes_back.false),
     )

@@ -19,17 +19,17 @@ offset_bounds-normal-k c =
 pub bounds-normal-k : goal.bounds-normal-k
 bounds-normal-k c =
     let k = place_below c.args.d c.loop-i.i c.loop-j.j c.loop-j.k c.loop-j.invariant c.loop-j-test.true in
-    omega (arith, k, c.requires.numbers)
+    omega (arith, k, c.requires.normal)
 
 pub returns-then-not-same_sign : goal.returns-then-not-same_sign
-returns-then-not-same_sign c e =
+returns-then-not-same_sign c = λ _ scale b is.
     let n = get_or c.args.normal.now c.loop-j.k (pos 0) in
     let x : FitsSigned w128 n = search rules in
     let y : FitsSigned w128 c.excess_at.result = search rules in
-    let g : (factor : ℕ) → 0 < factor → excess_at c.loop-i.i c.loop-j.j c.args.s.now c.args.w.now c.args.e.now.scale c.args.e.now.coefficients.items ≡ pos factor *ℤ n → ⊥ =
-    rw (to_z-of_z w128 c.excess_at.result y, to_z-of_z w128 n x, c.excess_at.ensures) at c.same_sign.ensures c.if-not-same_sign.true
+    let g : (factor : ℕ) → 0 < factor → excess_at c.loop-i.i c.loop-j.j c.args.s.now c.args.w.now scale b ≡ pos factor *ℤ n → ⊥ =
+    rw (to_z-of_z w128 c.excess_at.result y, to_z-of_z w128 n x, c.excess_at.ensures scale b is) at c.same_sign.ensures c.if-not-same_sign.true
     in
-    no_multiple c.args.d c.loop-i.i c.loop-j.j c.loop-j.k c.loop-j.invariant c.loop-j-test.true c.args.s.now c.args.w.now c.args.e.now.scale c.args.e.now.coefficients.items c.args.normal.now c.requires.points c.requires.dimension g
+    no_multiple c.args.d c.loop-i.i c.loop-j.j c.loop-j.k c.loop-j.invariant c.loop-j-test.true c.args.s.now c.args.w.now scale b c.args.normal.now c.requires.points c.requires.dimension g
 
 pub overflow_add-k : goal.overflow_add-k
 overflow_add-k c =

@@ -2,17 +2,17 @@ use Rattle.std.proofs.Common.{arith, ◌≡◌, sym, get_or, []}
 use Rattle.std.proofs.lemmas.List.{length_push}
 use Rattle.lt_triang.specs.Walled.{IsWall, shift_to}
 use Rattle.lt_triang.specs.declared.walls.Wall.{Wall}
-use Rattle.lt_triang.proofs.Rowed.{some_wall, row_pushed, wall_made}
+use Rattle.lt_triang.proofs.Rowed.{some_wall, row_pushed}
 use Rattle.lt_triang.proofs.rows.row_of.Goals as goal
 
-pub returns-in-None-clause-open : goal.returns-in-None-clause-open
-returns-in-None-clause-open c = λ class facet e.
+pub returns-in-Ok-None-clause-open : goal.returns-in-Ok-None-clause-open
+returns-in-Ok-None-clause-open c = λ class facet e.
     let en : c.args.n ≡ class = cc in
     let ef : c.loop-i.i ≡ facet = cc in (
       sym en,
       rw (← ef) (record {
         place = omega (arith, c.loop-i-test.true);
-        none = λ n j ln lj. c.in-None.ensures n j ln lj;
+        none = rw c.in-Ok-None.field-0-is at c.in-Ok-None.ensures;
         before = λ k l.
             let w : Wall = get_or c.loop-i.facets.items k some_wall in
             let t = c.args.classes.now in
@@ -24,8 +24,8 @@ pub loop-i-preserved : goal.loop-i-preserved
 loop-i-preserved c =
     let t = c.args.classes.now in
     let s = get_or t c.args.n [] in
-    let w = c.in-Ok-push_wall.ensures.0 in
-    rw c.in-Ok-push_wall.ensures.2 (record {
+    let w = c.in-Ok-Some.wall in
+    rw c.in-Ok-push.ensures.items (record {
       count = omega (arith, length_push c.loop-i.facets.items w, c.loop-i.invariant.count);
-      each = row_pushed (IsWall c.args.d t s) c.loop-i.facets.items c.loop-i.i w c.loop-i.invariant.count c.loop-i.invariant.each (wall_made c.args.d t s c.loop-i.i c.in-Some.found w c.requires.members c.in-Some.ensures c.in-Ok-push_wall.ensures.1);
+      each = row_pushed (IsWall c.args.d t s) c.loop-i.facets.items c.loop-i.i w c.loop-i.invariant.count c.loop-i.invariant.each (rw c.in-Ok-Some.field-0-is at c.in-Ok-Some.ensures);
     })
