@@ -12,7 +12,8 @@ use Rattle.lt_model.proofs.Expressions.{one_expression, total-scale}
 use Rattle.lt_model.proofs.Moved.{translate-back, simplex_moved, translate_all, Contains-translate}
 use Rattle.lt_geometry.proofs.Uniform.{uniform, HasUniform}
 use Rattle.lt_model.proofs.Opposite.{length-zeros}
-use Rattle.lt_geometry.proofs.WalkEnds.{HasCommon, common, over_translate, expression_moved}
+use Rattle.lt_geometry.proofs.WalkEnds.{HasCommon, common, over_translate}
+use Rattle.lt_walls.proofs.Beside.{expression_moved}
 use Rattle.lt_geometry.specs.Paving.{IsPaving}
 use Rattle.lt_geometry.proofs.Reading.{length-ones}
 use Rattle.lt_geometry.proofs.Walking.{IsAt, Holds, height, walk}

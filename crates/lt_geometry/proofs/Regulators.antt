@@ -24,7 +24,8 @@ use Rattle.lt_geometry.proofs.Primitive.{same_primitive}
 use Rattle.lt_geometry.proofs.PrimitiveParts.{primitive_part}
 use Rattle.lt_geometry.proofs.Closed.{get_dimension}
 use Rattle.lt_geometry.proofs.Unique.{one_neighbour}
-use Rattle.lt_geometry.proofs.Sides.{unique_neighbour, mutual_neighbour, turned, aside}
+use Rattle.lt_walls.proofs.Beside.{turned}
+use Rattle.lt_geometry.proofs.Sides.{unique_neighbour, mutual_neighbour, aside}
 use Rattle.lt_geometry.proofs.Fewness.{paving_of}
 
 -- the outer vertex has d coordinates

@@ -1,5 +1,5 @@
 -- Two members that share a facet lie on opposite sides of it; a facet of a member has one neighbour, whose neighbour the member is.
-use Rattle.std.proofs.Common.{◌≡◌, ◌≢◌, ℕ, zero, suc, ℤ, pos, negsuc, ◌+ℤ◌, ◌-ℤ◌, ◌*ℤ◌, ◌<ℤ◌, ◌≤ℤ◌, neg_ℤ, ◌<◌, refl, ap, ap₂, arith, sym, ◌∙◌, subst, List, [], ◌∷◌, length, map, get_or, inl, inr}
+use Rattle.std.proofs.Common.{◌≡◌, ◌≢◌, ℕ, zero, suc, ℤ, pos, negsuc, ◌-ℤ◌, ◌*ℤ◌, ◌<ℤ◌, ◌≤ℤ◌, neg_ℤ, ◌<◌, refl, ap, arith, sym, ◌∙◌, subst, List, [], ◌∷◌, length, map, get_or, inl, inr}
 use Rattle.std.proofs.lemmas.Int.{ints, by_lt_z}
 use Rattle.std.specs.List.{Contains}
 use Rattle.std.specs.List.Sorted.{IsStrictlySortedBy}
@@ -8,22 +8,22 @@ use Rattle.lt_model.proofs.Ring.{ring, var, num, neg, ◌⊕◌, ◌⊖◌, ◌�
 use Rattle.lt_model.proofs.Inequalities.{mul_nonneg_z, mul_pos_z}
 use Rattle.lt_model.proofs.Squares.{length-scale}
 use Rattle.lt_model.proofs.Vectors.{dot-scale, dot_comm}
-use Rattle.lt_model.proofs.Excess.{dot-combine, dot-constant, same_from_dots, scale-dot, excess-moved}
-use Rattle.lt_model.proofs.Walk.{dot-without, without-map, number_at-map, number_at-scale, without-with_at, number_at-with_at, length-with_at, length-without, length-combine, length-map}
+use Rattle.lt_model.proofs.Excess.{dot-combine, same_from_dots, scale-dot, excess-moved}
+use Rattle.lt_model.proofs.Walk.{number_at-scale}
 use Rattle.lt_model.proofs.Opposite.{length-zeros, zeros-dot}
 use Rattle.lt_model.proofs.Expressions.{has_weighted, one_expression, number_at-zeros, total-scale}
 use Rattle.lt_model.proofs.Moved.{simplex_moved, translate-back}
 use Rattle.lt_model.proofs.Translates.{without-translate, get-translate, ascending_translate}
 use Rattle.lt_model.proofs.Sets.{Contains-head, Contains-tail, Contains-cases, Contains-none, each_holds, never_below_itself, number_list_cmp_total}
 use Rattle.lt_model.specs.Order.{number_list_cmp}
-use Rattle.lt_model.specs.Vectors.{plus, scale, dot, total, combine, zeros}
+use Rattle.lt_model.specs.Vectors.{plus, scale, dot, combine, zeros}
 use Rattle.lt_model.specs.Forms.{value}
 use Rattle.lt_model.specs.Simplices.{AllOfDimension, IsSimplex, IsClass, IsExpression, IsStrictlyEmpty, excess, translate}
-use Rattle.lt_model.specs.Facets.{number_at, without, with_at, IsBeyond, IsNeighbour}
+use Rattle.lt_model.specs.Facets.{number_at, without, IsBeyond, IsNeighbour}
 use Rattle.lt_model.specs.Triangulations.{IsDelaunay}
 use Rattle.lt_model.proofs.Points.{weighted}
 use Rattle.lt_geometry.specs.Regulators.{outer_vertex}
-use Rattle.lt_geometry.proofs.WalkEnds.{expression_moved}
+use Rattle.lt_walls.proofs.Beside.{IsBeside, turned, length-turned, turned_number, turned_at, turned_total, turned_dot, length-combined, length-vertex, turned_expression, turned_excess, expression_moved}
 use Rattle.lt_geometry.proofs.LocalWalk.{empty_moved}
 use Rattle.lt_geometry.proofs.Whole.{same_from_within}
 use Rattle.lt_geometry.proofs.Closed.{get_dimension}
@@ -66,110 +66,32 @@ same_vertices vs ws i j sv sw l hi f e = same_from_within number_list_cmp number
 
 -- ---- the vertex opposite to a facet, over the simplex beyond it
 
--- ws has facet i of vs, and its vertex j has the expression e, f over vs
-pub record IsBeside (d : ℕ) (vs : List (List ℤ)) (i : ℕ) (ws : List (List ℤ)) (j : ℕ) (e : ℤ) (f : List ℤ) : Type 0 where
-  pub simplex : IsSimplex d vs
-  pub second : IsSimplex d ws
-  pub place : i < length vs
-  pub second_place : j < length ws
-  pub facet : without j ws ≡ without i vs
-  pub expression : IsExpression vs (get_or ws j []) e f
-
--- the numbers of - f_i times the vertex i of vs over ws
-abbrev pub turned : ℕ → ℕ → ℤ → List ℤ → List ℤ
-turned i j e f = with_at j (neg_ℤ e) (without i f)
-
 module _ {d : ℕ} {vs ws : List (List ℤ)} {i j : ℕ} {e : ℤ} {f : List ℤ} (h : IsBeside d vs i ws j e f) where
-  short : suc (length (without i f)) ≡ length vs
-  short = let l : length f ≡ length vs = h.expression.one_each in length-without i f (omega (arith, l, h.place)) ∙ l
-
-  same_count : length ws ≡ length vs
-  same_count = h.second.count ∙ sym h.simplex.count
-
-  pub length-turned : length (turned i j e f) ≡ length ws
-  length-turned = length-with_at j (neg_ℤ e) (without i f) ∙ short ∙ sym same_count
-
-  pub turned_number : number_at j (turned i j e f) ≡ neg_ℤ e
-  turned_number = number_at-with_at j (neg_ℤ e) (without i f) (omega (arith, h.second_place, short, same_count))
-
-  pub turned_at : (g : List ℤ → ℤ) → dot (turned i j e f) (map g ws) ≡ neg_ℤ e *ℤ g (get_or ws j []) +ℤ (dot f (map g vs) -ℤ number_at i f *ℤ g (get_or vs i []))
-  turned_at g =
-      let lv = length-map g vs in
-      let lw = length-map g ws in
-      let lf : length f ≡ length vs = h.expression.one_each in
-      let own = dot-without i f (map g vs) (lf ∙ sym lv) in
-      let at_i : number_at i (map g vs) ≡ g (get_or vs i []) = number_at-map g i vs [] h.place in
-      let there = dot-without j (turned i j e f) (map g ws) (length-turned ∙ sym lw) in
-      let at_j : number_at j (map g ws) ≡ g (get_or ws j []) = number_at-map g j ws [] h.second_place in
-      let rest : dot (without j (turned i j e f)) (without j (map g ws)) ≡ dot (without i f) (without i (map g vs)) =
-      ap₂ dot (without-with_at j (neg_ℤ e) (without i f) (omega (arith, h.second_place, short, same_count))) (without-map g j ws ∙ ap (map g) h.facet ∙ sym (without-map g i vs))
-      in
-      end (number_at j (turned i j e f)) (number_at j (map g ws)) (g (get_or ws j [])) (number_at i f) (number_at i (map g vs)) (g (get_or vs i [])) (dot (turned i j e f) (map g ws)) (dot f (map g vs)) (dot (without j (turned i j e f)) (without j (map g ws))) (dot (without i f) (without i (map g vs))) there own at_j at_i rest turned_number
-    where
-      end : (n gj gw fi gi gv t s r r' : ℤ) → t ≡ n *ℤ gj +ℤ r → s ≡ fi *ℤ gi +ℤ r' → gj ≡ gw → gi ≡ gv → r ≡ r' → n ≡ neg_ℤ e → t ≡ neg_ℤ e *ℤ gw +ℤ (s -ℤ fi *ℤ gv)
-      end n gj gw fi gi gv t s r r' a b c k l m =
-          let p : n *ℤ gj ≡ neg_ℤ e *ℤ gw = ap₂ (λ (x y : ℤ). x *ℤ y) m c in
-          let q : fi *ℤ gi ≡ fi *ℤ gv = ap (λ (y : ℤ). fi *ℤ y) k in
-          omega (arith, ints, a, b, p, q, l)
-
-  over : (g : List ℤ → ℤ) (x : ℤ) → dot f (map g vs) ≡ e *ℤ x → g (get_or ws j []) ≡ x → dot (turned i j e f) (map g ws) ≡ neg_ℤ (number_at i f) *ℤ g (get_or vs i [])
-  over g x k l = turned_at g ∙ ap₂ (λ (y z : ℤ). neg_ℤ e *ℤ y +ℤ (z -ℤ number_at i f *ℤ g (get_or vs i []))) l k
-      ∙ ring (e ∷ x ∷ number_at i f ∷ g (get_or vs i []) ∷ []) (neg (var 0) ⊗ var 1 ⊕ (var 0 ⊗ var 1 ⊖ var 2 ⊗ var 3)) (neg (var 2) ⊗ var 3) tt
-
-  turned_total : total (turned i j e f) ≡ neg_ℤ (number_at i f)
-  turned_total =
-      let one : List ℤ → ℤ = λ v. pos 1 in
-      let a : total (turned i j e f) *ℤ pos 1 ≡ neg_ℤ (number_at i f) *ℤ pos 1 = sym (dot-constant (turned i j e f) (pos 1) ws length-turned) ∙ over one (pos 1) (dot-constant f (pos 1) vs h.expression.one_each ∙ ap (λ (n : ℤ). n *ℤ pos 1) h.expression.sum) refl in
-      omega (arith, ints, a)
-
-  turned_dot : (u : List ℤ) → dot u (combine (turned i j e f) ws) ≡ neg_ℤ (number_at i f) *ℤ dot u (get_or vs i [])
-  turned_dot u = dot-combine u (turned i j e f) ws ∙ over (dot u) (dot u (get_or ws j [])) (sym (dot-combine u f vs) ∙ ap (dot u) h.expression.point ∙ dot-scale u e (get_or ws j [])) refl
-
-  length-combined : (b : List ℤ) → length b ≡ length ws → length (combine b ws) ≡ d
-  length-combined b l = length-combine d b ws h.second.points l (omega (arith, h.second.count))
-
-  length-vertex : length (get_or vs i []) ≡ d
-  length-vertex = get_dimension d vs i h.simplex.points h.place
-
-  -- where the vertices lie on opposite sides
-  pub turned_expression : number_at i f <ℤ pos 0 → IsExpression ws (get_or vs i []) (neg_ℤ (number_at i f)) (turned i j e f)
-  turned_expression n = record {
-    positive = omega (arith, ints, n);
-    one_each = length-turned;
-    point = same_from_dots (combine (turned i j e f) ws) (scale (neg_ℤ (number_at i f)) (get_or vs i [])) (length-combined (turned i j e f) length-turned ∙ sym length-vertex ∙ sym (length-scale (neg_ℤ (number_at i f)) (get_or vs i [])))
-        (λ u. turned_dot u ∙ sym (dot-scale u (neg_ℤ (number_at i f)) (get_or vs i [])));
-    sum = turned_total;
-  }
-
   -- where they lie on the same side
   back_expression : pos 0 <ℤ number_at i f → IsExpression ws (get_or vs i []) (number_at i f) (scale (negsuc 0) (turned i j e f))
   back_expression n =
-      let l : length (scale (negsuc 0) (turned i j e f)) ≡ length ws = length-scale (negsuc 0) (turned i j e f) ∙ length-turned in
+      let l : length (scale (negsuc 0) (turned i j e f)) ≡ length ws = length-scale (negsuc 0) (turned i j e f) ∙ (length-turned h) in
       record {
         positive = n;
         one_each = l;
-        point = same_from_dots (combine (scale (negsuc 0) (turned i j e f)) ws) (scale (number_at i f) (get_or vs i [])) (length-combined (scale (negsuc 0) (turned i j e f)) l ∙ sym length-vertex ∙ sym (length-scale (number_at i f) (get_or vs i [])))
-            (λ u. dot-combine u (scale (negsuc 0) (turned i j e f)) ws ∙ scale-dot (negsuc 0) (turned i j e f) (map (dot u) ws) ∙ ap (λ (z : ℤ). negsuc 0 *ℤ z) (sym (dot-combine u (turned i j e f) ws) ∙ turned_dot u)
+        point = same_from_dots (combine (scale (negsuc 0) (turned i j e f)) ws) (scale (number_at i f) (get_or vs i [])) (length-combined h (scale (negsuc 0) (turned i j e f)) l ∙ sym (length-vertex h) ∙ sym (length-scale (number_at i f) (get_or vs i [])))
+            (λ u. dot-combine u (scale (negsuc 0) (turned i j e f)) ws ∙ scale-dot (negsuc 0) (turned i j e f) (map (dot u) ws) ∙ ap (λ (z : ℤ). negsuc 0 *ℤ z) (sym (dot-combine u (turned i j e f) ws) ∙ turned_dot h u)
             ∙ ring (number_at i f ∷ dot u (get_or vs i []) ∷ []) (num (negsuc 0) ⊗ (neg (var 0) ⊗ var 1)) (var 0 ⊗ var 1) tt ∙ sym (dot-scale u (number_at i f) (get_or vs i [])));
-        sum = total-scale (negsuc 0) (turned i j e f) ∙ ap (λ (z : ℤ). negsuc 0 *ℤ z) turned_total ∙ ring (number_at i f ∷ []) (num (negsuc 0) ⊗ neg (var 0)) (var 0) tt;
+        sum = total-scale (negsuc 0) (turned i j e f) ∙ ap (λ (z : ℤ). negsuc 0 *ℤ z) (turned_total h) ∙ ring (number_at i f ∷ []) (num (negsuc 0) ⊗ neg (var 0)) (var 0) tt;
       }
 
-  pub turned_excess : (q : List ℤ) → excess q ws (get_or vs i []) (neg_ℤ (number_at i f)) (turned i j e f) ≡ excess q vs (get_or ws j []) e f
-  turned_excess q = ap (λ (z : ℤ). neg_ℤ (number_at i f) *ℤ value q (get_or vs i []) -ℤ z) (turned_at (value q))
-      ∙ ring (e ∷ number_at i f ∷ value q (get_or vs i []) ∷ value q (get_or ws j []) ∷ dot f (map (value q) vs) ∷ []) (neg (var 1) ⊗ var 2 ⊖ (neg (var 0) ⊗ var 3 ⊕ (var 4 ⊖ var 1 ⊗ var 2))) (var 0 ⊗ var 3 ⊖ var 4) tt
-
   back_excess : (q : List ℤ) → excess q ws (get_or vs i []) (number_at i f) (scale (negsuc 0) (turned i j e f)) ≡ neg_ℤ (excess q vs (get_or ws j []) e f)
-  back_excess q = ap (λ (z : ℤ). number_at i f *ℤ value q (get_or vs i []) -ℤ z) (scale-dot (negsuc 0) (turned i j e f) (map (value q) ws) ∙ ap (λ (z : ℤ). negsuc 0 *ℤ z) (turned_at (value q)))
+  back_excess q = ap (λ (z : ℤ). number_at i f *ℤ value q (get_or vs i []) -ℤ z) (scale-dot (negsuc 0) (turned i j e f) (map (value q) ws) ∙ ap (λ (z : ℤ). negsuc 0 *ℤ z) (turned_at h (value q)))
       ∙ ring (e ∷ number_at i f ∷ value q (get_or vs i []) ∷ value q (get_or ws j []) ∷ dot f (map (value q) vs) ∷ []) (var 1 ⊗ var 2 ⊖ num (negsuc 0) ⊗ (neg (var 0) ⊗ var 3 ⊕ (var 4 ⊖ var 1 ⊗ var 2))) (neg (var 0 ⊗ var 3 ⊖ var 4)) tt
 
   -- the vertex doesn't lie in the plane of the facet
   off_facet : number_at i f ≡ pos 0 → ⊥
   off_facet z =
-      let none : turned i j e f ≡ zeros (length ws) = h.second.independent (turned i j e f) length-turned (turned_total ∙ ap neg_ℤ z)
-      (same_from_dots (combine (turned i j e f) ws) (zeros d) (length-combined (turned i j e f) length-turned ∙ sym (length-zeros d))
-      (λ u. turned_dot u ∙ ap (λ (y : ℤ). neg_ℤ y *ℤ dot u (get_or vs i [])) z ∙ ring (dot u (get_or vs i []) ∷ []) (neg (num (pos 0)) ⊗ var 0) (num (pos 0)) tt ∙ sym (dot_comm u (zeros d) ∙ zeros-dot d u)))
+      let none : turned i j e f ≡ zeros (length ws) = h.second.independent (turned i j e f) (length-turned h) ((turned_total h) ∙ ap neg_ℤ z)
+      (same_from_dots (combine (turned i j e f) ws) (zeros d) (length-combined h (turned i j e f) (length-turned h) ∙ sym (length-zeros d))
+      (λ u. turned_dot h u ∙ ap (λ (y : ℤ). neg_ℤ y *ℤ dot u (get_or vs i [])) z ∙ ring (dot u (get_or vs i []) ∷ []) (neg (num (pos 0)) ⊗ var 0) (num (pos 0)) tt ∙ sym (dot_comm u (zeros d) ∙ zeros-dot d u)))
       in
-      let at : neg_ℤ e ≡ pos 0 = sym turned_number ∙ ap (number_at j) none ∙ number_at-zeros (length ws) j in
+      let at : neg_ℤ e ≡ pos 0 = sym (turned_number h) ∙ ap (number_at j) none ∙ number_at-zeros (length ws) j in
       omega (arith, ints, at, h.expression.positive)
 
   -- strictly empty simplices on the same side of a facet have the same vertex there
@@ -177,7 +99,7 @@ module _ {d : ℕ} {vs ws : List (List ℤ)} {i j : ℕ} {e : ℤ} {f : List ℤ
   same_side q ev ew n =
       let lw : length (get_or ws j []) ≡ d = get_dimension d ws j h.second.points h.second_place in
       let up = ev.outside (get_or ws j []) e f lw h.expression in
-      let down = ew.outside (get_or vs i []) (number_at i f) (scale (negsuc 0) (turned i j e f)) length-vertex (back_expression n) in
+      let down = ew.outside (get_or vs i []) (number_at i f) (scale (negsuc 0) (turned i j e f)) (length-vertex h) (back_expression n) in
       elim (one_or_other vs i (get_or ws j []) (ev.touches (get_or ws j []) e f lw h.expression (omega (arith, ints, up, down, back_excess q)))) [
         | inl o ↦ sym o
         | inr r ↦ absurd (let z = no_number d vs i (get_or ws j []) e f h.simplex h.expression r in omega (arith, ints, n, z))

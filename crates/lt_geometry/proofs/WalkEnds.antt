@@ -95,13 +95,6 @@ less_from_multiples c a b hc h =
     let f : c *ℤ (a -ℤ b) ≡ c *ℤ a -ℤ c *ℤ b = simp spread refl in
     absurd (omega (arith, ints, e, f)))
 
-pub expression_moved : (d : ℕ) (vs : List (List ℤ)) (p x b : List ℤ) (c : ℤ) → IsSimplex d vs → length p ≡ d → length x ≡ d → IsExpression vs x c b → IsExpression (translate p vs) (plus x p) c b
-expression_moved d vs p x b c s lp lx h =
-    let w : IsWeighted vs (pos 1) x c b = record { positive = h.positive; one_each = h.one_each; point = h.point; sum = h.sum ∙ (omega (arith, ints)) } in
-    let k : IsWeighted (translate p vs) (pos 1) (plus x (scale (pos 1) p)) c b = weighted_moved d vs p (pos 1) x b c s.points (omega (arith, s.count)) lp lx w in
-    let l : IsWeighted (translate p vs) (pos 1) (plus x p) c b = rw (scale-one p) at k in
-    record { positive = l.positive; one_each = l.one_each; point = l.point; sum = h.sum }
-
 number_at-unit : (n k i : ℕ) → (number_at i (unit n k) ≡ pos 0) ⊎ (number_at i (unit n k) ≡ pos 1)
 number_at-unit zero k i = inl refl
 number_at-unit (suc n) zero zero = inr refl

@@ -8,7 +8,8 @@ use Rattle.lt_model.proofs.Excess.{length-translate, excess-moved, scale-dot}
 use Rattle.lt_model.proofs.Walk.{IsWeighted, IsStep, next_coefficients, next_expression, value_rises}
 use Rattle.lt_model.proofs.Expressions.{one_expression}
 use Rattle.lt_model.proofs.Moved.{simplex_moved, translate_all}
-use Rattle.lt_geometry.proofs.WalkEnds.{HasCommon, over_translate, negative_or_none, less_from_multiples, expression_moved, positive_excess}
+use Rattle.lt_geometry.proofs.WalkEnds.{HasCommon, over_translate, negative_or_none, less_from_multiples, positive_excess}
+use Rattle.lt_walls.proofs.Beside.{expression_moved}
 use Rattle.lt_model.specs.Vectors.{plus, scale, dot}
 use Rattle.lt_model.specs.Forms.{value}
 use Rattle.lt_model.specs.Simplices.{IsSimplex, excess, translate}

@@ -1,7 +1,7 @@
 -- The steps of the loops of the rule.
-use Rattle.std.proofs.Common.{◌≡◌, ◌≢◌, refl, sym, ◌∙◌, ap, ℕ, ◌+◌, ◌*◌, ◌≤◌, ◌<◌, ◌^◌, ℤ, pos, ◌+ℤ◌, ◌*ℤ◌, ◌<ℤ◌, arith, cond, nat_le, Bool, true, false, nat_abs, add-one, FitsSigned, mul-le-mul}
+use Rattle.std.proofs.Common.{◌≡◌, ◌≢◌, refl, sym, ◌∙◌, ap, ℕ, ◌+◌, ◌*◌, ◌≤◌, ◌<◌, ◌^◌, ℤ, pos, ◌+ℤ◌, ◌*ℤ◌, ◌<ℤ◌, arith, cond, nat_le, Bool, true, false, nat_abs, add-one, FitsSigned}
 use Rattle.std.specs.Int.{w128}
-use Rattle.std.proofs.lemmas.Int.{ints, unsigned_abs-mul, fits_signed_from_abs}
+use Rattle.std.proofs.lemmas.Int.{ints, fits_signed_from_abs}
 use Rattle.std.proofs.lemmas.Bool.Decides.{nat_tests}
 use native.Mathlib.Decide.{ℕ_discrete}
 use Rattle.lt_tableau.specs.Numbers.{sum_below}
@@ -72,13 +72,6 @@ best_leaves t column best row h b = record {
   positive = b.positive;
   least = λ r l n p. b.least r (omega arith) n p;
 }
-
-pub product_fits_both : (x y : ℤ) → nat_abs x < 2 ^ 56 → nat_abs y < 2 ^ 56 → FitsSigned w128 (x *ℤ y)
-product_fits_both x y h k =
-    let p : nat_abs x ≤ 2 ^ 56 = omega arith in
-    let q : nat_abs y ≤ 2 ^ 56 = omega arith in
-    let m : nat_abs x * nat_abs y ≤ 2 ^ 56 * 2 ^ 56 = mul-le-mul p q in
-    fits_signed_from_abs w128 (x *ℤ y) (rw unsigned_abs-mul (omega arith))
 
 pub sum_fits_row : (s x : ℤ) (row : ℕ) → nat_abs s ≤ row * 2 ^ 56 → row < 22 → nat_abs x < 2 ^ 56 → FitsSigned w128 (s +ℤ x)
 sum_fits_row s x row h l k = fits_signed_from_abs w128 (s +ℤ x) (omega (arith, ints))

@@ -28,9 +28,9 @@ lookup_zeros (suc n) zero = refl
 lookup_zeros (suc n) (suc q) = lookup_zeros n q
 
 -- one number more
-pub add_step : (old xs ys : List ℤ) (i : ℕ) (v : ℤ) → i < length xs → length xs ≡ length old → ((q : ℕ) → q < i → lookup xs q ≡ lookup old q +ℤ lookup ys q) → ((q : ℕ) → i ≤ q → lookup xs q ≡ lookup old q) → v ≡ lookup old i +ℤ lookup ys i →
-    record { size : length (set xs i v) ≡ length old; done : (q : ℕ) → q < i + 1 → lookup (set xs i v) q ≡ lookup old q +ℤ lookup ys q; rest : (q : ℕ) → i + 1 ≤ q → lookup (set xs i v) q ≡ lookup old q }
-add_step old xs ys i v h s d r e = record {
+pub add_step : (old xs : List ℤ) (f : ℕ → ℤ) (i : ℕ) (v : ℤ) → i < length xs → length xs ≡ length old → ((q : ℕ) → q < i → lookup xs q ≡ lookup old q +ℤ f q) → ((q : ℕ) → i ≤ q → lookup xs q ≡ lookup old q) → v ≡ lookup old i +ℤ f i →
+    record { size : length (set xs i v) ≡ length old; done : (q : ℕ) → q < i + 1 → lookup (set xs i v) q ≡ lookup old q +ℤ f q; rest : (q : ℕ) → i + 1 ≤ q → lookup (set xs i v) q ≡ lookup old q }
+add_step old xs f i v h s d r e = record {
   size = length-set xs i v ∙ s;
   done = λ q l. pick q l (ℕ_discrete q i);
   rest = λ q l. other q (λ z. absurd (omega arith)) ∙ r q (omega arith);
@@ -42,7 +42,7 @@ add_step old xs ys i v h s d r e = record {
     other : (q : ℕ) → (q ≡ i → ⊥) → lookup (set xs i v) q ≡ lookup xs q
     other q n = lookup_is (set xs i v) q ∙ get_or-set_other xs i q v (pos 0) n ∙ sym (lookup_is xs q)
 
-    pick : (q : ℕ) → q < i + 1 → Dec (q ≡ i) → lookup (set xs i v) q ≡ lookup old q +ℤ lookup ys q
+    pick : (q : ℕ) → q < i + 1 → Dec (q ≡ i) → lookup (set xs i v) q ≡ lookup old q +ℤ f q
     pick q l (yes z) = rw z (own ∙ e)
     pick q l (no z) = other q z ∙ d q (omega arith)
 

@@ -9,6 +9,7 @@ mod cones;
 mod copies;
 mod deciding;
 mod laws;
+mod narrow;
 mod primitives;
 mod rows;
 mod rule;

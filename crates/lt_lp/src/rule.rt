@@ -1,21 +1,24 @@
 //! The pivot rule.
 
-ghost use Rattle.std.specs.Prelude.{◌≡◌, ◌≢◌, ◌≤◌, ◌<◌, ◌-◌, ◌^◌, ℕ, suc, pos, ◌<ℤ◌, ◌≤ℤ◌, [], length, get_or, true, false, IfSome, IfNone, IfOk, nat_abs};
+ghost use Rattle.std.specs.Prelude.{◌≡◌, ◌≢◌, ◌≤◌, ◌<◌, ◌-◌, ◌^◌, ℕ, suc, pos, ◌*ℤ◌, ◌<ℤ◌, ◌≤ℤ◌, [], length, get_or, true, false, IfSome, IfNone, IfOk, nat_abs, IsTrue};
 ghost use Rattle.std.specs.List.{All};
 ghost use Rattle.lt_model.specs.Limits.{weight, weight_limit};
 ghost use Rattle.lt_tableau.specs.Table.{IsTableau, count_of, entry_of, units_of};
 ghost use Rattle.lt_tableau.specs.System.{system_of};
 ghost use Rattle.lt_tableau.specs.Errors.{AreOfDimension};
-ghost use Rattle.lt_lp.specs.Rule.{objective_of, gain_of, number_of, IsBefore, IsLeaving, IsReady, IsStopped, IsEarlier};
+ghost use Rattle.lt_lp.specs.Rule.{objective_of, gain_of, number_of, IsNarrow, IsBefore, IsLeaving, IsReady, IsStopped, IsEarlier};
 
-use crate::sums::{are_tiny, first_unit, gains, objective, unit_sums};
+use crate::narrow::{are_narrow, are_short};
+use crate::sums::{first_unit, gains, objective, unit_sums};
 use lt_lattice::Normal;
 use lt_model::Memory;
 use lt_tableau::Tableau;
 use std::alloc::Global;
 
-/// The first column whose reduced cost is negative, unless the objective is 0.
-fn entering(t: &Tableau) -> Option<usize>
+/// The first column whose reduced cost is negative, unless the objective is 0. Where `narrow` says that the system's numbers are narrow,
+/// and the sums are short, no sum takes 128 bits.
+fn entering(t: &Tableau, narrow: bool) -> Option<usize>
+    requires { IsTrue narrow → IsNarrow t.now }
     ensures inside { IfSome result (λ column. column < units_of t.now) }
     ensures gains { IfSome result (λ column. pos 0 <ℤ gain_of t.now column) }
     ensures stopped { IfNone result (IsStopped t.now) }
@@ -24,9 +27,9 @@ fn entering(t: &Tableau) -> Option<usize>
         return None;
     }
     let sums = unit_sums(t);
-    let tiny = are_tiny(&sums);
+    let short = narrow && are_short(&sums);
     for column in 0..first_unit(t) {
-        if gains(t, &sums, tiny, column) {
+        if gains(t, &sums, short, column) {
             return Some(column);
         }
     }
@@ -60,6 +63,15 @@ fn numbers_of(t: &Tableau, column: usize) -> [i128; 22]
     numbers
 }
 
+/// The product of two numbers of a tableau. They fit into 64 bits, so that it takes one multiplication.
+fn product(a: i128, b: i128) -> i128
+    requires left { nat_abs a < 2 ^ 56 }
+    requires right { nat_abs b < 2 ^ 56 }
+    ensures { result ≡ a *ℤ b }
+{
+    a as i64 as i128 * b as i64 as i128
+}
+
 /// Whether the list of the row `a`, over its number in the column, is lexicographically less than that of the row `b`.
 fn is_before(t: &Tableau, numbers: &[i128; 22], column: usize, a: usize, b: usize) -> bool
     requires inside { column < units_of t.now }
@@ -76,8 +88,8 @@ fn is_before(t: &Tableau, numbers: &[i128; 22], column: usize, a: usize, b: usiz
     let over_a = numbers[a];
     let over_b = numbers[b];
     for place in 0..rows + 1 {
-        let left = number(t, a, place) * over_b;
-        let right = number(t, b, place) * over_a;
+        let left = product(number(t, a, place), over_b);
+        let right = product(number(t, b, place), over_a);
         if left < right {
             return true;
         }
@@ -152,7 +164,8 @@ fn run(tableau: Tableau) -> Tableau
     ensures rows { result.rows ≡ tableau.rows }
 {
     let mut t = tableau;
-    while let Some(column) = entering(&t) {
+    let narrow = are_narrow(&t);
+    while let Some(column) = entering(&t, narrow) {
         let row = leaving(&t, column);
         t.pivot(row, column);
     }

@@ -1,5 +1,5 @@
 -- The numbers of an excess at pairs of coordinates, and the signs of its multiples.
-use Rattle.std.proofs.Common.{◌≡◌, ℕ, zero, suc, ℤ, pos, negsuc, ◌*ℤ◌, ◌-ℤ◌, ◌+ℤ◌, ◌<◌, ◌≤◌, ◌+◌, ◌*◌, ◌^◌, refl, ap, ap₂, arith, sym, ◌∙◌, List, [], ◌∷◌, ◌++◌, length, map, drop, get_or, drop-cons, add-one, nat_abs}
+use Rattle.std.proofs.Common.{◌≡◌, ℕ, zero, suc, ℤ, pos, negsuc, ◌*ℤ◌, ◌-ℤ◌, ◌+ℤ◌, ◌<◌, ◌+◌, refl, ap, ap₂, arith, sym, ◌∙◌, List, [], ◌∷◌, ◌++◌, length, map, drop, get_or, drop-cons, add-one}
 use Rattle.std.proofs.lemmas.Int.{ints}
 use Rattle.lt_model.specs.Vectors.{dot, scale, combine, zeros}
 use Rattle.lt_model.specs.Forms.{squares, numbers_of_form}

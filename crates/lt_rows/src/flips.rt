@@ -5,7 +5,7 @@ ghost use Rattle.std.specs.Prelude.{pos, ◌≤ℤ◌};
 
 use crate::cones::facet;
 use crate::matching::{image_by, is_class, principal_of};
-use lt_flip::{FlipError, cells, flip};
+use lt_flip::{FlipError, cells, flip, flipped_classes};
 use lt_lattice::{Matrix, Normal, Point};
 use lt_match::match_types;
 use lt_triang::Triangulation;
@@ -115,6 +115,19 @@ fn across_the_facets_of_the_plane_lies_its_type(rt: HostRuntime) {
             &Matrix::of(2, &[0, 1, 1, -1])
         )
     );
+}
+
+#[test]
+fn the_classes_of_a_flip_make_it(rt: HostRuntime) {
+    let t = principal_of(&rt, rt.alloc(), 2);
+    let n = facet(&rt, rt.alloc(), &t, 0);
+    match flipped_classes(rt.alloc(), &t, &n) {
+        Ok(classes) => match (Triangulation::of_closed(classes), flip(rt.alloc(), &t, &n)) {
+            (Ok(made), Ok(across)) => assert!(rt; made == across),
+            _ => assert!(rt; false),
+        },
+        Err(_) => assert!(rt; false),
+    }
 }
 
 #[test]

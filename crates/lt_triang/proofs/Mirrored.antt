@@ -14,8 +14,7 @@ use Rattle.lt_model.specs.Cones.{AreBelow}
 use Rattle.lt_model.specs.Facets.{number_at, without, with_at, IsBeyond}
 use Rattle.lt_model.specs.Simplices.{IsClass, IsSimplex, IsExpression, translate}
 use Rattle.lt_model.specs.Vectors.{plus, scale, IsPrimitive}
-use Rattle.lt_geometry.proofs.Sides.{IsBeside, turned, turned_expression, turned_number}
-use Rattle.lt_geometry.proofs.WalkEnds.{expression_moved}
+use Rattle.lt_walls.proofs.Beside.{IsBeside, turned, turned_expression, turned_number, expression_moved}
 use Rattle.lt_triang.specs.Across.{IsFacing}
 use Rattle.lt_triang.specs.Indexed.{IsOuterIn}
 use Rattle.lt_triang.specs.Kept.{AreClasses}

@@ -115,7 +115,7 @@ impl Triangulation {
 
     /// The triangulation of classes that ascend and are known to be closed under facets.
     pub fn of_closed(classes: Vec<Class>) -> Result<Triangulation, Memory>
-        requires { IsTriangulation (dimension_of classes.items) classes.items }
+        requires { (d : ℕ) × IsTriangulation d classes.items }
         ensures { IfOk result (λ t. t ≡ classes.items) }
     {
         let d = dimension_of(classes.as_slice());

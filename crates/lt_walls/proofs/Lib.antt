@@ -9,3 +9,4 @@ pub mod Flip
 pub mod Strictly
 pub mod Margins
 pub mod Local
+pub mod Beside

@@ -1,5 +1,5 @@
 -- Local to global: where each facet rises for a form, every member is strictly empty for it.
-use Rattle.std.proofs.Common.{List, [], ◌∷◌, ◌≡◌, ℕ, zero, suc, ◌⊎◌, inl, inr, sym, ◌∙◌, ap, ap₂, arith, ℤ, pos, negsuc, ◌+ℤ◌, ◌*ℤ◌, ◌<ℤ◌, ◌≤ℤ◌}
+use Rattle.std.proofs.Common.{List, [], ◌∷◌, ◌≡◌, ℕ, zero, suc, ◌⊎◌, inl, inr, sym, ◌∙◌, ap, ap₂, arith, ℤ, pos, ◌+ℤ◌, ◌*ℤ◌, ◌<ℤ◌, ◌≤ℤ◌}
 use Rattle.std.proofs.lemmas.Int.{ints, by_lt_z}
 use Rattle.lt_model.proofs.Ring.{ring, var, num, ◌⊗◌}
 use Rattle.lt_walls.proofs.Sums.{qs}

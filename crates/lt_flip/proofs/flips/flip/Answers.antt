@@ -6,12 +6,6 @@ use Rattle.lt_triang.specs.Kept.{IsTriangulation, dimension_of, IsOfSomeForm}
 use Rattle.lt_triang.proofs.Expressed.{dimension_is}
 use Rattle.lt_flip.proofs.flips.flip.Goals as goal
 
-pub of_closed-requires : goal.of_closed-requires
-of_closed-requires c =
-    let t = c.in_ok-classes.classes.items in
-    let h : IsTriangulation (dimension_of c.args.t.now) t = c.in_ok-classes.ensures.triangulation in
-    subst (λ (n : ℕ). IsTriangulation n t) (dimension_is (dimension_of c.args.t.now) t h) h
-
 pub returns-clause-dimension : goal.returns-clause-dimension
 returns-clause-dimension c =
     let classes = c.in_ok-classes.classes.items in

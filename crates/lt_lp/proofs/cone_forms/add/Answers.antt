@@ -32,7 +32,7 @@ loop-i-preserved c =
     let a : nat_abs x ≤ c.args.count * 2 ^ 62 = rw (← e, r) (c.requires.small i) in
     let b : nat_abs y < 2 ^ 62 = rw (← n) (small_at c.args.numbers.now c.requires.below i) in
     let fits = (sum_size x y c.args.count c.requires.few a b).fits in
-    simp to_z-of_z (add_step c.args.sums.now c.loop-i.sums c.args.numbers.now i (x +ℤ y) (omega arith) c.loop-i.invariant.size c.loop-i.invariant.done c.loop-i.invariant.rest (rw (← r, e, n) refl))
+    simp to_z-of_z (add_step c.args.sums.now c.loop-i.sums (lookup c.args.numbers.now) i (x +ℤ y) (omega arith) c.loop-i.invariant.size c.loop-i.invariant.done c.loop-i.invariant.rest (rw (← r, e, n) refl))
 
 pub returns-clause-sums : goal.returns-clause-sums
 returns-clause-sums c q = pick (dec_le c.loop-i.i q)

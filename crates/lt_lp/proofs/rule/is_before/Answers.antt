@@ -1,23 +1,9 @@
-use Rattle.std.proofs.Common.{◌≡◌, sym, ◌<◌, ◌^◌, ◌*ℤ◌, ◌<ℤ◌, nat_abs, pos, get_or, arith, rules, FitsSigned}
+use Rattle.std.proofs.Common.{◌≡◌, sym, ◌*ℤ◌, ◌<ℤ◌, pos, get_or, arith, rules, FitsSigned}
 use Rattle.std.specs.Int.{w128}
 use Rattle.std.proofs.lemmas.Int.{ints, to_z-of_z}
-use Rattle.lt_lp.proofs.Loops.{product_fits_both, tied_more}
+use Rattle.lt_lp.proofs.Loops.{tied_more}
 use Rattle.lt_lp.proofs.Leaves.{no_tie}
 use Rattle.lt_lp.proofs.rule.is_before.Goals as goal
-
-pub overflow_mul-left : goal.overflow_mul-left
-overflow_mul-left c =
-    let x : FitsSigned w128 c.number.result = search rules in
-    let y : FitsSigned w128 (get_or c.args.numbers.now c.args.b (pos 0)) = search rules in
-    let s : nat_abs (get_or c.args.numbers.now c.args.b (pos 0)) < 2 ^ 56 = rw (c.requires.values c.args.b c.requires.b_in) (c.rows-rows.ensures.tableau.small c.args.b c.args.column) in
-    simp to_z-of_z (product_fits_both c.number.result (get_or c.args.numbers.now c.args.b (pos 0)) c.number.ensures.small s)
-
-pub overflow_mul-right : goal.overflow_mul-right
-overflow_mul-right c =
-    let x : FitsSigned w128 c.number-in-loop-place.result = search rules in
-    let y : FitsSigned w128 (get_or c.args.numbers.now c.args.a (pos 0)) = search rules in
-    let s : nat_abs (get_or c.args.numbers.now c.args.a (pos 0)) < 2 ^ 56 = rw (c.requires.values c.args.a c.requires.a_in) (c.rows-rows.ensures.tableau.small c.args.a c.args.column) in
-    simp to_z-of_z (product_fits_both c.number-in-loop-place.result (get_or c.args.numbers.now c.args.a (pos 0)) c.number-in-loop-place.ensures.small s)
 
 pub unreachable-requires : goal.unreachable-requires
 unreachable-requires c =
@@ -30,10 +16,12 @@ returns-then-left-right-clause-yes c = λ _.
     let y : FitsSigned w128 (get_or c.args.numbers.now c.args.b (pos 0)) = search rules in
     let z : FitsSigned w128 c.number-in-loop-place.result = search rules in
     let w : FitsSigned w128 (get_or c.args.numbers.now c.args.a (pos 0)) = search rules in
-    let p : FitsSigned w128 (c.number.result *ℤ (get_or c.args.numbers.now c.args.b (pos 0))) = product_fits_both c.number.result (get_or c.args.numbers.now c.args.b (pos 0)) c.number.ensures.small (rw (c.requires.values c.args.b c.requires.b_in) (c.rows-rows.ensures.tableau.small c.args.b c.args.column)) in
-    let q : FitsSigned w128 (c.number-in-loop-place.result *ℤ (get_or c.args.numbers.now c.args.a (pos 0))) = product_fits_both c.number-in-loop-place.result (get_or c.args.numbers.now c.args.a (pos 0)) c.number-in-loop-place.ensures.small (rw (c.requires.values c.args.a c.requires.a_in) (c.rows-rows.ensures.tableau.small c.args.a c.args.column)) in
+    let u : FitsSigned w128 c.product-left.result = search rules in
+    let r : FitsSigned w128 c.product-right.result = search rules in
+    let p : c.product-left.result ≡ c.number.result *ℤ get_or c.args.numbers.now c.args.b (pos 0) = simp to_z-of_z at c.product-left.ensures in
+    let q : c.product-right.result ≡ c.number-in-loop-place.result *ℤ get_or c.args.numbers.now c.args.a (pos 0) = simp to_z-of_z at c.product-right.ensures in
     let k = simp to_z-of_z at c.if-left-right.true in
-    let l : (c.number.result *ℤ (get_or c.args.numbers.now c.args.b (pos 0))) <ℤ (c.number-in-loop-place.result *ℤ (get_or c.args.numbers.now c.args.a (pos 0))) = omega (arith, ints) in
+    let l : (c.number.result *ℤ get_or c.args.numbers.now c.args.b (pos 0)) <ℤ (c.number-in-loop-place.result *ℤ get_or c.args.numbers.now c.args.a (pos 0)) = omega (arith, ints) in
     let o = c.loop-place-test.true in
     let v = c.rows-rows.ensures.value in
     record {
@@ -49,10 +37,12 @@ returns-then-right-left-clause-no c = λ _.
     let y : FitsSigned w128 (get_or c.args.numbers.now c.args.b (pos 0)) = search rules in
     let z : FitsSigned w128 c.number-in-loop-place.result = search rules in
     let w : FitsSigned w128 (get_or c.args.numbers.now c.args.a (pos 0)) = search rules in
-    let p : FitsSigned w128 (c.number.result *ℤ (get_or c.args.numbers.now c.args.b (pos 0))) = product_fits_both c.number.result (get_or c.args.numbers.now c.args.b (pos 0)) c.number.ensures.small (rw (c.requires.values c.args.b c.requires.b_in) (c.rows-rows.ensures.tableau.small c.args.b c.args.column)) in
-    let q : FitsSigned w128 (c.number-in-loop-place.result *ℤ (get_or c.args.numbers.now c.args.a (pos 0))) = product_fits_both c.number-in-loop-place.result (get_or c.args.numbers.now c.args.a (pos 0)) c.number-in-loop-place.ensures.small (rw (c.requires.values c.args.a c.requires.a_in) (c.rows-rows.ensures.tableau.small c.args.a c.args.column)) in
+    let u : FitsSigned w128 c.product-left.result = search rules in
+    let r : FitsSigned w128 c.product-right.result = search rules in
+    let p : c.product-left.result ≡ c.number.result *ℤ get_or c.args.numbers.now c.args.b (pos 0) = simp to_z-of_z at c.product-left.ensures in
+    let q : c.product-right.result ≡ c.number-in-loop-place.result *ℤ get_or c.args.numbers.now c.args.a (pos 0) = simp to_z-of_z at c.product-right.ensures in
     let k = simp to_z-of_z at c.if-right-left.true in
-    let l : (c.number-in-loop-place.result *ℤ (get_or c.args.numbers.now c.args.a (pos 0))) <ℤ (c.number.result *ℤ (get_or c.args.numbers.now c.args.b (pos 0))) = omega (arith, ints) in
+    let l : (c.number-in-loop-place.result *ℤ get_or c.args.numbers.now c.args.a (pos 0)) <ℤ (c.number.result *ℤ get_or c.args.numbers.now c.args.b (pos 0)) = omega (arith, ints) in
     let o = c.loop-place-test.true in
     let v = c.rows-rows.ensures.value in
     record {
@@ -68,9 +58,11 @@ loop-place-preserved c =
     let y : FitsSigned w128 (get_or c.args.numbers.now c.args.b (pos 0)) = search rules in
     let z : FitsSigned w128 c.number-in-loop-place.result = search rules in
     let w : FitsSigned w128 (get_or c.args.numbers.now c.args.a (pos 0)) = search rules in
-    let p : FitsSigned w128 (c.number.result *ℤ (get_or c.args.numbers.now c.args.b (pos 0))) = product_fits_both c.number.result (get_or c.args.numbers.now c.args.b (pos 0)) c.number.ensures.small (rw (c.requires.values c.args.b c.requires.b_in) (c.rows-rows.ensures.tableau.small c.args.b c.args.column)) in
-    let q : FitsSigned w128 (c.number-in-loop-place.result *ℤ (get_or c.args.numbers.now c.args.a (pos 0))) = product_fits_both c.number-in-loop-place.result (get_or c.args.numbers.now c.args.a (pos 0)) c.number-in-loop-place.ensures.small (rw (c.requires.values c.args.a c.requires.a_in) (c.rows-rows.ensures.tableau.small c.args.a c.args.column)) in
+    let u : FitsSigned w128 c.product-left.result = search rules in
+    let r : FitsSigned w128 c.product-right.result = search rules in
+    let p : c.product-left.result ≡ c.number.result *ℤ get_or c.args.numbers.now c.args.b (pos 0) = simp to_z-of_z at c.product-left.ensures in
+    let q : c.product-right.result ≡ c.number-in-loop-place.result *ℤ get_or c.args.numbers.now c.args.a (pos 0) = simp to_z-of_z at c.product-right.ensures in
     let k = simp to_z-of_z at c.if-right-left.false in
     let j = simp to_z-of_z at c.if-left-right.false in
-    let l : c.number.result *ℤ (get_or c.args.numbers.now c.args.b (pos 0)) ≡ c.number-in-loop-place.result *ℤ (get_or c.args.numbers.now c.args.a (pos 0)) = omega (arith, ints) in
+    let l : c.number.result *ℤ get_or c.args.numbers.now c.args.b (pos 0) ≡ c.number-in-loop-place.result *ℤ get_or c.args.numbers.now c.args.a (pos 0) = omega (arith, ints) in
     tied_more c.args.t.now c.args.column c.args.a c.args.b c.loop-place.place c.loop-place.invariant (rw (c.number.ensures.value, c.requires.values c.args.b c.requires.b_in, c.number-in-loop-place.ensures.value, c.requires.values c.args.a c.requires.a_in) at l)

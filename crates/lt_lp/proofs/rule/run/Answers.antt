@@ -20,4 +20,5 @@ loop-column-preserved c =
       ready = ready_step c.loop-column.t c.pivot.new.self c.leaving-row.result c.in-Some.column c.loop-column.invariant.ready e.tableau c.leaving-row.ensures v;
       system = e.system ∙ c.loop-column.invariant.system;
       rows = e.rows ∙ c.loop-column.invariant.rows;
+      narrow = λ h. rw (e.system, e.rows) (c.loop-column.invariant.narrow h);
     }

@@ -1,50 +1,34 @@
-use Rattle.std.proofs.Common.{refl, ◌≡◌, ◌<◌, ◌≤◌, ◌+◌, ◌*◌, ◌^◌, sym, ◌∙◌, ℕ, zero, suc, ℤ, pos, List, [], length, set, length-set, get_or-set_same, get_or-set_other, nat_abs, arith, rules, FitsSigned}
-use Rattle.std.specs.Int.{w64, w128}
-use Rattle.std.proofs.lemmas.Int.{to_z-of_z}
-use native.Mathlib.Decide.{ℕ_discrete}
+use Rattle.std.proofs.Common.{◌<◌, ◌≤◌, ◌+◌, ℕ, arith}
 use Rattle.lt_model.specs.Padded.{lookup}
-use Rattle.lt_tableau.specs.Numbers.{filled}
-use Rattle.lt_tableau.specs.Table.{units_of}
-use Rattle.lt_lp.specs.Rule.{gain_of}
-use Rattle.lt_tableau.proofs.Sums.{lookup_is, lookup_none}
+use Rattle.lt_tableau.specs.Table.{basic_of, units_of}
+use Rattle.lt_lp.specs.Rule.{unit_entry}
+use Rattle.lt_lp.proofs.Loops.{sum_more, sum_skip}
+use Rattle.lt_lp.proofs.WallSums.{lookup_zeros}
 use Rattle.lt_lp.proofs.sums.unit_sums.Goals as goal
+use Rattle.lt_lp.proofs.sums.unit_sums.Goals.{then-basic-first, else-basic-first}
 
-no_numbers : (m k : ℕ) → nat_abs (lookup (filled m []) k) ≤ 22 * 2 ^ 56
-no_numbers zero k = rw (lookup_none k) (omega arith)
-no_numbers (suc m) zero = omega arith
-no_numbers (suc m) (suc k) = no_numbers m k
-
-pub loop-unit-init : goal.loop-unit-init
-loop-unit-init c = record { size = refl; values = λ q h. absurd (omega arith); small = λ k. no_numbers 22 k }
-
-step : (f : ℕ → ℤ) (b : ℕ) (xs : List ℤ) (i : ℕ) (v : ℤ) → length xs ≡ 22 → i < 22 → ((k : ℕ) → k < i → lookup xs k ≡ f k) → ((k : ℕ) → nat_abs (lookup xs k) ≤ b) → v ≡ f i → nat_abs v ≤ b →
-    record { size : length (set xs i v) ≡ 22; values : (k : ℕ) → k < i + 1 → lookup (set xs i v) k ≡ f k; small : (k : ℕ) → nat_abs (lookup (set xs i v) k) ≤ b }
-step f b xs i v l h d r e s = record {
-  size = length-set xs i v ∙ l;
-  values = λ k c. pick k c (ℕ_discrete k i);
-  small = λ k. less k (ℕ_discrete k i);
+pub loop-row-init : goal.loop-row-init
+loop-row-init c = record {
+  values = λ q l. record { is = lookup_zeros 22 q; small = rw (lookup_zeros 22 q) (omega arith) };
+  small = λ q. rw (lookup_zeros 22 q) (omega arith);
 }
-  where
-    own : lookup (set xs i v) i ≡ v
-    own = lookup_is (set xs i v) i ∙ get_or-set_same xs i v (pos 0) (rw l h)
 
-    other : (k : ℕ) → (k ≡ i → ⊥) → lookup (set xs i v) k ≡ lookup xs k
-    other k n = lookup_is (set xs i v) k ∙ get_or-set_other xs i k v (pos 0) n ∙ sym (lookup_is xs k)
-
-    pick : (k : ℕ) → k < i + 1 → Dec (k ≡ i) → lookup (set xs i v) k ≡ f k
-    pick k c (yes q) = rw q (own ∙ e)
-    pick k c (no q) = other k q ∙ d k (omega arith)
-
-    less : (k : ℕ) → Dec (k ≡ i) → nat_abs (lookup (set xs i v) k) ≤ b
-    less k (yes q) = rw (q, own) s
-    less k (no q) = rw (other k q) (r k)
-
-pub loop-unit-preserved : goal.loop-unit-preserved
-loop-unit-preserved c =
-    let i = c.loop-unit.invariant in
+pub loop-row-preserved : goal.loop-row-preserved
+loop-row-preserved c =
     let t = c.args.t.now in
-    let w = c.rows-unit-end.ensures.tableau.few_rows in
-    let x : FitsSigned w64 c.word.result = search rules in
-    let y : FitsSigned w128 c.unit_sum.result = search rules in
-    let e : c.word.result ≡ c.unit_sum.result = simp to_z-of_z at c.word.ensures in
-    simp to_z-of_z (step (λ (q : ℕ). gain_of t (units_of t + q)) (22 * 2 ^ 56) c.loop-unit.sums c.loop-unit.unit c.word.result i.size (omega arith) i.values i.small (e ∙ c.unit_sum.ensures.value) (rw e c.unit_sum.ensures.small))
+    let row = c.loop-row.row in
+    let small = λ (q : ℕ). c.rows-row-end.ensures.tableau.small row (units_of t + q) in
+    elim c.if-basic-first.branch [
+      | then-basic-first w ↦
+          let l : units_of t ≤ basic_of t row = omega arith in
+          simp w.sums-is (record {
+            values = λ q h. rw (w.add_row.ensures.values q h) (sum_more t (λ (r : ℕ). unit_entry t r q) row (lookup c.loop-row.sums q) (small q) l (c.loop-row.invariant.values q h));
+            small = w.add_row.ensures.small;
+          })
+      | else-basic-first w ↦
+          let l : basic_of t row < units_of t = omega arith in
+          simp w.sums-is (record {
+            values = λ q h. sum_skip t (λ (r : ℕ). unit_entry t r q) row (lookup c.loop-row.sums q) l (c.loop-row.invariant.values q h);
+            small = λ q. let k = c.loop-row.invariant.small q in omega arith;
+          })
+    ]

@@ -1,4 +1,4 @@
-use Rattle.std.proofs.Common.{◌≡◌, ◌<◌, ◌≤◌, ◌+◌, ◌*◌, ◌^◌, ◌-ℤ◌, ◌*ℤ◌, suc, ℕ, ℤ, pos, List, ◌∷◌, nat_abs, length, get_or, [], arith, ap, ◌∙◌, refl, add-one, rules, FitsSigned}
+use Rattle.std.proofs.Common.{◌≡◌, ◌≤◌, ◌+◌, ◌*◌, ◌^◌, ◌-ℤ◌, ◌*ℤ◌, ℕ, ℤ, pos, List, ◌∷◌, nat_abs, length, get_or, [], arith, ap, ◌∙◌, refl, add-one, rules, FitsSigned}
 use Rattle.std.proofs.lemmas.Int.{ints, to_z-of_z}
 use mir.Syntax.{w64, w128}
 use mir.Val.{SFits, to_z}

@@ -2,8 +2,9 @@ use Rattle.std.proofs.Common.{arith, ◌≡◌, ◌-◌, suc, ℕ, ℤ, List, Er
 use Rattle.std.proofs.lemmas.List.Elements.{Contains-get_or}
 use Rattle.lt_model.specs.Simplices.{IsClass}
 use Rattle.lt_triang.specs.Across.{IsFirstOpen}
-use Rattle.lt_triang.specs.Kept.{IsTriangulation, dimension_of}
+use Rattle.lt_triang.specs.Kept.{IsTriangulation}
 use Rattle.lt_triang.specs.Walled.{AreRows}
+use Rattle.lt_triang.proofs.Expressed.{dimension_is}
 use Rattle.lt_triang.proofs.Made.{classes_of, not_open}
 use Rattle.lt_triang.proofs.triangulations.Triangulation.of_closed.Goals as goal
 
@@ -11,8 +12,8 @@ less_one : (d n : ℕ) → n ≡ suc d → n - 1 ≡ d
 less_one d n e = omega arith
 
 -- the triangulation in the dimension that is read from its first class
-here : (d : ℕ) (t : List (List (List ℤ))) → IsClass d (get_or t 0 []) → IsTriangulation (dimension_of t) t → IsTriangulation d t
-here d t k h = subst (λ (n : ℕ). IsTriangulation n t) (less_one d (length (get_or t 0 [])) k.simplex.count) h
+here : (d : ℕ) (t : List (List (List ℤ))) → IsClass d (get_or t 0 []) → (e : ℕ) × IsTriangulation e t → IsTriangulation d t
+here d t k (e, h) = subst (λ (n : ℕ). IsTriangulation n t) (dimension_is e t h ∙ less_one d (length (get_or t 0 [])) k.simplex.count) h
 
 none_open : (d : ℕ) (t : List (List (List ℤ))) (n i : ℕ) → IsTriangulation d t → IsFirstOpen d t n i → ⊥
 none_open d t n i h f = not_open d t (get_or t n []) i h (Contains-get_or t n [] f.member) f.facet.place (λ m j g l. f.facet.none m j g l)

@@ -1,4 +1,4 @@
-use Rattle.std.proofs.Common.{◌≡◌, ◌*◌, ◌∙◌, ℕ, ℤ, List, get_or, [], ap, sym, subst, length}
+use Rattle.std.proofs.Common.{◌≡◌, ◌*◌, ◌∙◌, ℕ, ℤ, List, get_or, [], subst}
 use Rattle.std.specs.List.{All}
 use Rattle.lt_model.specs.Limits.{span_limit}
 use Rattle.lt_model.specs.Vectors.{plus}

@@ -1,7 +1,7 @@
 use Rattle.std.proofs.Common.{◌≡◌, ◌≤◌, ◌*◌, ◌*ℤ◌, ◌^◌, ℕ, nat_abs}
 use Rattle.lt_model.specs.Padded.{lookup}
 use Rattle.lt_tableau.specs.Numbers.{column_at, sum_below}
-use Rattle.lt_lp.proofs.sums.tiny_gain.Given as goal
+use Rattle.lt_lp.proofs.sums.short_gain.Given as goal
 
 abbrev pub invariant-loop-q : goal.invariant-loop-q
 invariant-loop-q l = record {
