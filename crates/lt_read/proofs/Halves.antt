@@ -12,7 +12,6 @@ use Rattle.lt_model.proofs.Flat.{first_rows-flat}
 use Rattle.lt_model.proofs.Filtered.{from_filter}
 use Rattle.lt_model.proofs.Sets.{Contains-head, Contains-tail, same_members, simplex_cmp_total}
 use Rattle.lt_core.proofs.Crossings.{HasForm}
-use Rattle.lt_laws.specs.Negatives.{IsHalved}
 use Rattle.lt_laws.proofs.Halved.{halved}
 use Rattle.lt_text.specs.Texts.{class_numbers}
 use Rattle.lt_text.specs.Values.{listed}

@@ -7,7 +7,7 @@ use Rattle.std.proofs.lemmas.List.Elements.{recursion_from_All, All-head, All-ta
 use Rattle.lt_model.specs.Cones.{Verdict, wall, combination, Row, Cone, AreBelow, normals, coefficients, places, wall_or_none, sum_of_walls, IsRightVerdict, IsRightCone}
 use Rattle.lt_model.specs.Forms.{numbers_of_form}
 use Rattle.lt_model.specs.Padded.{lookup}
-use Rattle.lt_model.specs.Vectors.{plus, scale}
+use Rattle.lt_model.specs.Vectors.{plus}
 use Rattle.lt_model.specs.Walls.{IsRegulator}
 use Rattle.lt_model.specs.Atlases.{Classes}
 use Rattle.lt_model.proofs.Squares.{length-scale}

@@ -1,21 +1,16 @@
 -- Bytes that are read as a right atlas aren't refused, and are read as one alone.
-use Rattle.std.proofs.Common.{◌≡◌, ℕ, ℤ, ◌^◌, inl, inr, ◌<◌, ◌≤◌, refl, sym, ap, ap₂, ◌∙◌, subst, arith, List, [], ◌∷◌, map, length, Option, lit<}
+use Rattle.std.proofs.Common.{◌≡◌, ℕ, ◌^◌, inl, inr, ◌<◌, ◌≤◌, sym, ap, ◌∙◌, subst, arith, List, map, length, Option, lit<}
 use Rattle.std.proofs.lemmas.List.{same_lists, get_or_default}
 use Rattle.lt_model.specs.Cones.{Cone}
-use Rattle.lt_model.specs.Flat.{first_rows, flat}
-use Rattle.lt_model.specs.Simplices.{IsClass}
 use Rattle.lt_model.specs.Walls.{IsAcross}
 use Rattle.lt_model.specs.Atlases as model
 use Rattle.lt_model.specs.Atlases.{Classes, Atlas}
-use Rattle.lt_model.specs.RightAtlases.{AreClasses, AreRight, fresh_atlas}
-use Rattle.lt_model.proofs.Flat.{first_rows-flat}
-use Rattle.lt_model.proofs.Sets.{Contains-head, Contains-tail}
+use Rattle.lt_model.specs.RightAtlases.{AreRight, fresh_atlas}
 use Rattle.lt_grammar.specs.Texts.{Entry, Text, text}
 use Rattle.lt_grammar.specs.Ranges.{EntriesFit, TextFits}
 use Rattle.lt_grammar.proofs.Laws.{one_value}
 use Rattle.lt_core.proofs.Crossings.{HasForm, across_laws}
 use Rattle.lt_core.proofs.Reaching.{entry_form}
-use Rattle.lt_text.specs.Texts.{class_numbers}
 use Rattle.lt_text.specs.Values.{IsVersion}
 use Rattle.lt_read.specs.Refused.{entry_at, read_mark, IsRefused, IsFirstRefusal}
 use Rattle.lt_read.specs.Reading.{IsEntryOf, read_marks, IsAtlasOf, IsRead}

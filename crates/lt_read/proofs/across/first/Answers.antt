@@ -16,4 +16,4 @@ returns-clause-form c =
 pub returns-then-not-lists-clause-why : goal.returns-then-not-lists-clause-why
 returns-then-not-lists-clause-why c t p l =
     let is = one_principal c.args.d t c.in-Ok.t p c.in-Ok.ensures.principal in
-    both_ways c.lists.result c.if-not-lists.true (c.lists.ensures.1 (ap (λ z. map class_numbers (listed c.args.version z)) (sym is) ∙ l))
+    both_ways c.lists.result c.if-not-lists.true (c.lists.ensures.1 (ap (λ z. map class_numbers (listed c.args.version z)) (c.classes.ensures ∙ sym is) ∙ l))
