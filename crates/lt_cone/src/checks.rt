@@ -19,7 +19,9 @@ use std::alloc::Global;
 fn is_row(normals: &[Normal], k: usize, row: &Row) -> bool
     requires place { k < length normals.now }
     requires light { (d : ℕ) × AreOfDimension d normals.now × (weight d normals.now < weight_limit) }
-    ensures { (d : ℕ) → AreOfDimension d normals.now → (IsTrue result ↔ ((row.now.normal ≡ get_or normals.now k []) × IsRightVerdict d normals.now k row.now.verdict)) }
+    ensures { (d : ℕ) → AreOfDimension d normals.now →
+        (IsTrue result ↔ ((row.now.normal ≡ get_or normals.now k []) ×
+        IsRightVerdict d normals.now k row.now.verdict)) }
 {
     if row.normal != normals[k] {
         return false;
@@ -32,7 +34,8 @@ fn first_wrong(normals: &[Normal], rows: &[Row]) -> usize
     requires light { (d : ℕ) × AreOfDimension d normals.now × (weight d normals.now < weight_limit) }
     ensures most { result ≤ length normals.now }
     ensures before { (d : ℕ) → AreOfDimension d normals.now → (k : ℕ) → k < result → IsRowOf d normals.now rows.now k }
-    ensures wrong { (d : ℕ) → AreOfDimension d normals.now → result < length normals.now → IsRowOf d normals.now rows.now result → ⊥ }
+    ensures wrong { (d : ℕ) → AreOfDimension d normals.now → result < length normals.now →
+        IsRowOf d normals.now rows.now result → ⊥ }
 {
     for k in 0..normals.len() {
         if k >= rows.len() {

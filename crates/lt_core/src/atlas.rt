@@ -219,7 +219,8 @@ impl Atlas {
     fn note(&mut self, position: u64, mark: Mark, noted: Mark, stuck: usize)
         requires counted { stuck ≡ one_if_stuck (mark_of mark) }
         requires same { mark_of noted ≡ mark_of mark }
-        requires legal { IsLegal (IsAcross self.old.dimension) self.old self.old.entries (record { position = position; mark = mark_of mark; fresh = false }) }
+        requires legal { IsLegal (IsAcross self.old.dimension) self.old self.old.entries
+            (record { position = position; mark = mark_of mark; fresh = false }) }
         ensures { self.new ≡ push self.old position (mark_of mark) }
     {
         let (entry, facet) = self.queue[position as usize];
@@ -244,10 +245,14 @@ impl Atlas {
         matrix: Matrix,
     ) -> Result<(), Already>
         requires queued { position < length self.old.queue }
-        requires legal { mark_at self.old.marks (place_at self.old.queue position) ≡ open_mark → IsLegal (IsAcross self.old.dimension) self.old self.old.entries (record { position = position; mark = cross target (matrix_rows matrix); fresh = false }) }
+        requires legal { mark_at self.old.marks (place_at self.old.queue position) ≡ open_mark →
+            IsLegal (IsAcross self.old.dimension) self.old self.old.entries
+            (record { position = position; mark = cross target (matrix_rows matrix); fresh = false }) }
         ensures ok { OnOk result (self.new ≡ push self.old position (cross target (matrix_rows matrix))) }
         ensures err { OnErr result (self.new ≡ self.old) }
-        ensures cause { MatchResult result (λ _. mark_at self.old.marks (place_at self.old.queue position) ≡ open_mark) (λ e. (mark_at self.old.marks (place_at self.old.queue position) ≢ open_mark) × (mark_of e.mark ≡ mark_at self.old.marks (place_at self.old.queue position))) }
+        ensures cause { MatchResult result (λ _. mark_at self.old.marks (place_at self.old.queue position)
+            ≡ open_mark) (λ e. (mark_at self.old.marks (place_at self.old.queue position) ≢ open_mark) ×
+            (mark_of e.mark ≡ mark_at self.old.marks (place_at self.old.queue position))) }
     {
         let here = self.standing(position);
         if !here.is_open() {
@@ -274,9 +279,11 @@ impl Atlas {
         cone: Cone,
     ) -> Result<u32, (Triangulation, Cone)>
         requires here { IsOpenAt self.old position }
-        requires candidate { IsCandidate (IsAcross self.old.dimension) self.old position (length self.old.entries) (candidate self.old position triangulation cone) }
+        requires candidate { IsCandidate (IsAcross self.old.dimension) self.old position (length self.old.entries)
+            (candidate self.old position triangulation cone) }
         requires few { length self.old.entries < 2 ^ 30 }
-        ensures ok { IfOk result (λ k. (k ≡ length self.old.entries) × (self.new ≡ grow self.old position (candidate self.old position triangulation cone))) }
+        ensures ok { IfOk result (λ k. (k ≡ length self.old.entries) ×
+            (self.new ≡ grow self.old position (candidate self.old position triangulation cone))) }
         ensures err { IfErr result (λ b. (b.0 ≡ triangulation) × (b.1 ≡ cone)) }
         ensures unchanged { OnErr result (self.new ≡ self.old) }
     {
@@ -353,9 +360,12 @@ impl Atlas {
 
     /// The first entry, from the one with the number `from`, whose triangulation has this fingerprint.
     pub fn likely(&self, print: &[i128], from: u32) -> Option<u32>
-        ensures found { IfSome result (λ k. (from ≤ k) × (k < length self.now.entries) × IsFingerprint self.now.dimension (entry_at self.now.entries k).triangulation print.now) }
-        ensures before { IfSome result (λ k. (i : ℕ) → from ≤ i → i < k → IsFingerprint self.now.dimension (entry_at self.now.entries i).triangulation print.now → ⊥) }
-        ensures none { IfNone result ((i : ℕ) → from ≤ i → i < length self.now.entries → IsFingerprint self.now.dimension (entry_at self.now.entries i).triangulation print.now → ⊥) }
+        ensures found { IfSome result (λ k. (from ≤ k) × (k < length self.now.entries) ×
+            IsFingerprint self.now.dimension (entry_at self.now.entries k).triangulation print.now) }
+        ensures before { IfSome result (λ k. (i : ℕ) → from ≤ i → i < k →
+            IsFingerprint self.now.dimension (entry_at self.now.entries i).triangulation print.now → ⊥) }
+        ensures none { IfNone result ((i : ℕ) → from ≤ i → i < length self.now.entries →
+            IsFingerprint self.now.dimension (entry_at self.now.entries i).triangulation print.now → ⊥) }
     {
         let digest = digest(print);
         for k in from..self.entries() {
@@ -370,10 +380,12 @@ impl Atlas {
     pub fn record_stuck(&mut self, position: u64, tested: u32, mark: Mark) -> Result<(), Missed>
         requires queued { position < length self.old.queue }
         requires tested { tested ≤ length self.old.entries }
-        requires stuck { standing_at self.old position ≡ open_mark → IsStuck (IsAcross self.old.dimension) self.old position tested (mark_of mark) }
+        requires stuck { standing_at self.old position ≡ open_mark →
+            IsStuck (IsAcross self.old.dimension) self.old position tested (mark_of mark) }
         ensures ok { OnOk result (self.new ≡ push self.old position (mark_of mark)) }
         ensures unchanged { OnErr result (self.new ≡ self.old) }
-        ensures cause { MatchResult result (λ _. (standing_at self.old position ≡ open_mark) × (IsHeavyMark mark → length self.old.entries ≤ tested)) (λ e. IsMissed self.old position tested mark e) }
+        ensures cause { MatchResult result (λ _. (standing_at self.old position ≡ open_mark) ×
+            (IsHeavyMark mark → length self.old.entries ≤ tested)) (λ e. IsMissed self.old position tested mark e) }
     {
         let here = self.standing(position);
         if !here.is_open() {
@@ -398,12 +410,16 @@ impl Atlas {
     ) -> Result<u32, Back>
         requires queued { position < length self.old.queue }
         requires tested { tested ≤ length self.old.entries }
-        requires candidate { standing_at self.old position ≡ open_mark → IsCandidate (IsAcross self.old.dimension) self.old position tested (candidate self.old position triangulation cone) }
+        requires candidate { standing_at self.old position ≡ open_mark →
+            IsCandidate (IsAcross self.old.dimension) self.old position tested
+            (candidate self.old position triangulation cone) }
         requires few { length self.old.entries < 2 ^ 30 }
-        ensures ok { IfOk result (λ k. (k ≡ length self.old.entries) × (self.new ≡ grow self.old position (candidate self.old position triangulation cone))) }
+        ensures ok { IfOk result (λ k. (k ≡ length self.old.entries) ×
+            (self.new ≡ grow self.old position (candidate self.old position triangulation cone))) }
         ensures unchanged { OnErr result (self.new ≡ self.old) }
         ensures back { IfErr result (λ b. (b.triangulation ≡ triangulation) × (b.cone ≡ cone)) }
-        ensures cause { MatchResult result (λ _. (standing_at self.old position ≡ open_mark) × (length self.old.entries ≤ tested)) (λ b. IsWhy self.old position tested b.why) }
+        ensures cause { MatchResult result (λ _. (standing_at self.old position ≡ open_mark) ×
+            (length self.old.entries ≤ tested)) (λ b. IsWhy self.old position tested b.why) }
     {
         let here = self.standing(position);
         if !here.is_open() {

@@ -136,7 +136,8 @@ fn are_standing(marks: &[Mark], now: &[Mark]) -> bool
 /// Whether all marks that aren't open stand.
 pub fn all_stand(marks: &[Vec<Mark>], now: &[Vec<Mark>]) -> bool
     requires rows { length marks.now ≤ length now.now }
-    requires facets { (k : ℕ) → k < length marks.now → length (get_or (marks_of marks.now) k []) ≤ length (get_or (marks_of now.now) k []) }
+    requires facets { (k : ℕ) → k < length marks.now →
+        length (get_or (marks_of marks.now) k []) ≤ length (get_or (marks_of now.now) k []) }
     ensures { IsTrue result ↔ AllStand (marks_of marks.now) (marks_of now.now) }
 {
     for k in 0..marks.len() {

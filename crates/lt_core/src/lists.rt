@@ -97,8 +97,11 @@ pub fn make_room(
     ensures marks { (marks.new.items ≡ marks.old.items) × (vec_len marks.new ≡ vec_len marks.old) }
     ensures prints { (prints.new.items ≡ prints.old.items) × (vec_len prints.new ≡ vec_len prints.old) }
     ensures queue { (queue.new.items ≡ queue.old.items) × (vec_len queue.new ≡ vec_len queue.old) }
-    ensures log { (log.new.items ≡ log.old.items) × (vec_len log.new ≡ vec_len log.old) × (vec_capacity log.old ≤ vec_capacity log.new) }
-    ensures ok { OnOk result ((vec_len entries.new < vec_capacity entries.new) × (vec_len marks.new < vec_capacity marks.new) × (vec_len queue.new + facets ≤ vec_capacity queue.new) × (vec_len log.new + events ≤ vec_capacity log.new) × (vec_len prints.new < vec_capacity prints.new)) }
+    ensures log { (log.new.items ≡ log.old.items) × (vec_len log.new ≡ vec_len log.old) ×
+        (vec_capacity log.old ≤ vec_capacity log.new) }
+    ensures ok { OnOk result ((vec_len entries.new < vec_capacity entries.new) ×
+        (vec_len marks.new < vec_capacity marks.new) × (vec_len queue.new + facets ≤ vec_capacity queue.new) ×
+        (vec_len log.new + events ≤ vec_capacity log.new) × (vec_len prints.new < vec_capacity prints.new)) }
 {
     entries.reserve(1)?;
     marks.reserve(1)?;

@@ -47,7 +47,8 @@ pub fn digest(numbers: &[i128]) -> u64
 
 /// Appends a number.
 fn push_number(narrow: &mut Vec<i8>, wide: &mut Vec<i128>, number: i128) -> Result<(), AllocError>
-    ensures { IfOk result (λ _. narrow.new.items ++ wide.new.items ≡ (narrow.old.items ++ wide.old.items) ++ number ∷ []) }
+    ensures { IfOk result (λ _. narrow.new.items ++ wide.new.items
+        ≡ (narrow.old.items ++ wide.old.items) ++ number ∷ []) }
 {
     match i8::try_from(number) {
         Ok(short) if wide.is_empty() => narrow.push(short)?,
@@ -148,7 +149,9 @@ pub fn print_of(alloc: Global, t: &Triangulation) -> Result<Print, Memory>
 pub fn prints_of(alloc: Global, entries: &[Entry]) -> Result<Vec<Print>, Memory>
     requires { (k : ℕ) → k < length entries.now → IsOfSomeForm (entry_at (map entry_of entries.now) k).triangulation }
     ensures count { IfOk result (λ v. length v.items ≡ length entries.now) }
-    ensures each { IfOk result (λ v. (k : ℕ) → k < length entries.now → let t = (entry_at (map entry_of entries.now) k).triangulation in IsFingerprint (dimension_of t) t (get_or v.items k [])) }
+    ensures each { IfOk result (λ v. (k : ℕ) → k < length entries.now →
+        let t = (entry_at (map entry_of entries.now) k).triangulation in
+        IsFingerprint (dimension_of t) t (get_or v.items k [])) }
 {
     let mut all = Vec::new(alloc);
     for entry in entries {

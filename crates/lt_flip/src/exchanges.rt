@@ -70,7 +70,9 @@ pub fn push_exchanged(
     requires dimension { length w.now ≡ d }
     requires near { AreNear (2 * span_limit d) (w.now ∷ s.now) }
     requires expression { IsExpression s.now w.now e.now.scale e.now.coefficients.items }
-    ensures { IfOk result (λ _. (r : List (List ℤ)) → Contains all.new.items r ↔ (Contains all.old.items r ⊎ ((k : ℕ) × IsMadeFrom d s.now w.now e.now.coefficients.items k r))) }
+    ensures { IfOk result (λ _. (r : List (List ℤ)) →
+        Contains all.new.items r ↔ (Contains all.old.items r ⊎ ((k : ℕ) ×
+        IsMadeFrom d s.now w.now e.now.coefficients.items k r))) }
 {
     for k in 0..d + 1 {
         if is_positive_at(e, k) {

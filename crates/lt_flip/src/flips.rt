@@ -82,7 +82,8 @@ fn flipped(alloc: Global, t: &Triangulation, facet: &Normal) -> Result<Vec<Class
 
 /// The place of the first class whose span is above the limit.
 fn first_wide(d: u8, classes: &[Class]) -> Option<usize>
-    ensures { MatchOption result ((i : ℕ) → i < length classes.now → class_span (get_or classes.now i []) ≤ span_limit d) (λ i. IsFirstWide d classes.now i) }
+    ensures { MatchOption result ((i : ℕ) → i < length classes.now →
+        class_span (get_or classes.now i []) ≤ span_limit d) (λ i. IsFirstWide d classes.now i) }
 {
     let limit = span_limit(d);
     for i in 0..classes.len() {
@@ -117,7 +118,8 @@ pub fn flipped_classes(
     ensures flip { IfOk result (λ r. IsFlipOf (dimension_of t.now) t.now facet.now r.items) }
     ensures across { IfOk result (λ r. IsAcross (dimension_of t.now) t.now facet.now r.items) }
     ensures delaunay { IfOk result (λ r. IsOfSomeForm r.items) }
-    ensures wide { (class : List (List ℤ)) (wide : ℤ) → result ≡ Err (Wide class wide) → IsWideFlip (dimension_of t.now) t.now facet.now class wide }
+    ensures wide { (class : List (List ℤ)) (wide : ℤ) → result ≡ Err (Wide class wide) →
+        IsWideFlip (dimension_of t.now) t.now facet.now class wide }
 {
     let d = t.dimension();
     let classes = sorted_distinct(flipped(alloc, t, facet)?);
@@ -139,7 +141,8 @@ pub fn flip(alloc: Global, t: &Triangulation, facet: &Normal) -> Result<Triangul
     ensures delaunay { IfOk result (λ r. IsOfSomeForm r) }
     ensures dimension { IfOk result (λ r. dimension_of r ≡ dimension_of t.now) }
     ensures narrow { IfOk result (λ r. span r ≤ span_limit (dimension_of t.now)) }
-    ensures wide { (class : List (List ℤ)) (wide : ℤ) → result ≡ Err (Wide class wide) → IsWideFlip (dimension_of t.now) t.now facet.now class wide }
+    ensures wide { (class : List (List ℤ)) (wide : ℤ) → result ≡ Err (Wide class wide) →
+        IsWideFlip (dimension_of t.now) t.now facet.now class wide }
 {
     let classes = flipped_classes(alloc, t, facet)?;
     let across = Triangulation::of_closed(classes)?;

@@ -24,7 +24,9 @@ pub struct Outer {
 fn first_facet(t: &Triangulation, class: usize, normal: &Normal) -> Option<usize>
     requires delaunay { IsOfSomeForm t.now }
     requires class { class < length t.now }
-    ensures { MatchOption result (HasNoFacet (dimension_of t.now) t.now (get_or t.now class []) normal.now) (λ i. (i < suc (dimension_of t.now)) × IsRegulatorAt (dimension_of t.now) t.now (get_or t.now class []) i normal.now) }
+    ensures { MatchOption result (HasNoFacet (dimension_of t.now) t.now (get_or t.now class []) normal.now)
+        (λ i. (i < suc (dimension_of t.now)) ×
+        IsRegulatorAt (dimension_of t.now) t.now (get_or t.now class []) i normal.now) }
 {
     for facet in 0..usize::from(t.dimension()) + 1 {
         if has_regulator(t, class, facet, normal) {
@@ -39,7 +41,9 @@ fn first_facet(t: &Triangulation, class: usize, normal: &Normal) -> Option<usize
 pub fn outer_of(t: &Triangulation, class: usize, normal: &Normal) -> Option<Outer>
     requires delaunay { IsOfSomeForm t.now }
     requires class { class < length t.now }
-    ensures { MatchOption result (HasNoFacet (dimension_of t.now) t.now (get_or t.now class []) normal.now) (λ o. IsOuterOf (dimension_of t.now) t.now (get_or t.now class []) normal.now o.vertex o.expression.scale o.expression.coefficients.items) }
+    ensures { MatchOption result (HasNoFacet (dimension_of t.now) t.now (get_or t.now class []) normal.now)
+        (λ o. IsOuterOf (dimension_of t.now) t.now
+        (get_or t.now class []) normal.now o.vertex o.expression.scale o.expression.coefficients.items) }
 {
     // It shows that the members lie near one another.
     let _dimension = t.dimension();

@@ -177,8 +177,10 @@ pub struct TooLarge;
 /// The product `u v`, or TooLarge where one of its numbers is 2^62 or more in absolute value.
 pub fn times(u: &Matrix, v: &Matrix) -> Result<Matrix, TooLarge>
     requires { length u.now ≡ length v.now }
-    ensures value { (d : ℕ) → length u.now ≡ d * d → IfOk result (λ m. m ≡ flat (matrix.times (rows d u.now) (rows d v.now))) }
-    ensures below { (d : ℕ) → length u.now ≡ d * d → (IsOk result ↔ All (IsBelow (2 ^ 62)) (flat (matrix.times (rows d u.now) (rows d v.now)))) }
+    ensures value { (d : ℕ) → length u.now ≡ d * d →
+        IfOk result (λ m. m ≡ flat (matrix.times (rows d u.now) (rows d v.now))) }
+    ensures below { (d : ℕ) → length u.now ≡ d * d →
+        (IsOk result ↔ All (IsBelow (2 ^ 62)) (flat (matrix.times (rows d u.now) (rows d v.now)))) }
 {
     let numbers = product(u.numbers(), v.numbers(), u.dimension() as usize);
     if are_below(numbers.as_slice()) {

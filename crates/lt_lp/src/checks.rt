@@ -119,7 +119,8 @@ fn sums_match(normals: &[Normal], k: usize, scale: i128, terms: &[(usize, i128)]
     requires scale { nat_abs scale < 2 ^ 62 }
     requires few { length terms.now ≤ 21 }
     requires terms { AreTerms 0 (length normals.now) k terms.now }
-    ensures { IsTrue result ↔ ((j : ℕ) → j < length (get_or normals.now k []) → term_sum normals.now j terms.now ≡ scale *ℤ lookup (get_or normals.now k []) j) }
+    ensures { IsTrue result ↔ ((j : ℕ) → j < length (get_or normals.now k []) →
+        term_sum normals.now j terms.now ≡ scale *ℤ lookup (get_or normals.now k []) j) }
 {
     let numbers = normals[k].numbers();
     for j in 0..numbers.len() {
@@ -155,7 +156,8 @@ fn is_combination(normals: &[Normal], k: usize, scale: i128, terms: &[(usize, i1
     requires place { k < length normals.now }
     requires same { All (λ x. length x ≡ length (get_or normals.now k [])) normals.now }
     requires small { All (All (IsBelow (2 ^ 56))) normals.now }
-    ensures { (d : ℕ) → AreOfDimension d normals.now → (IsTrue result ↔ IsRightCombination d normals.now k scale terms.now) }
+    ensures { (d : ℕ) → AreOfDimension d normals.now →
+        (IsTrue result ↔ IsRightCombination d normals.now k scale terms.now) }
 {
     if !are_in_range(scale, terms.len(), normals[k].numbers().len()) {
         return false;
@@ -174,7 +176,8 @@ fn is_combination(normals: &[Normal], k: usize, scale: i128, terms: &[(usize, i1
 pub fn check(normals: &[Normal], k: usize, verdict: &Verdict) -> bool
     requires place { k < length normals.now }
     requires light { (d : ℕ) × AreOfDimension d normals.now × (weight d normals.now < weight_limit) }
-    ensures { (d : ℕ) → AreOfDimension d normals.now → (IsTrue result ↔ IsRightVerdict d normals.now k (verdict_of verdict.now)) }
+    ensures { (d : ℕ) → AreOfDimension d normals.now →
+        (IsTrue result ↔ IsRightVerdict d normals.now k (verdict_of verdict.now)) }
 {
     match verdict {
         Verdict::Wall(form) => is_wall(normals, k, form),

@@ -25,8 +25,10 @@ pub fn decide_light(alloc: Global, normals: &[Normal], k: usize) -> Result<Verdi
     requires same { All (λ x. length x ≡ length (get_or normals.now 0 [])) normals.now }
     requires positive { (form : List ℤ) × IsPositiveAt form normals.now }
     requires light { (d : ℕ) → AreOfDimension d normals.now → weight d normals.now < weight_limit }
-    ensures right { IfOk result (λ v. (d : ℕ) → AreOfDimension d normals.now → IsRightVerdict d normals.now k (verdict_of v)) }
-    ensures alone { IfOk result (λ v. (d : ℕ) → AreOfDimension d normals.now → IsNoWall d normals.now k (verdict_of v)) }
+    ensures right { IfOk result (λ v. (d : ℕ) → AreOfDimension d normals.now →
+        IsRightVerdict d normals.now k (verdict_of v)) }
+    ensures alone { IfOk result (λ v. (d : ℕ) → AreOfDimension d normals.now →
+        IsNoWall d normals.now k (verdict_of v)) }
 {
     let d = normals[k].dimension();
     match stopped(alloc, normals, k) {
@@ -47,8 +49,10 @@ pub fn decide(alloc: Global, normals: &[Normal], k: usize) -> Result<Verdict, Lp
     requires place { k < length normals.now }
     requires same { All (λ x. length x ≡ length (get_or normals.now 0 [])) normals.now }
     requires positive { (form : List ℤ) × IsPositiveAt form normals.now }
-    ensures right { IfOk result (λ v. (d : ℕ) → AreOfDimension d normals.now → IsRightVerdict d normals.now k (verdict_of v)) }
-    ensures alone { IfOk result (λ v. (d : ℕ) → AreOfDimension d normals.now → IsNoWall d normals.now k (verdict_of v)) }
+    ensures right { IfOk result (λ v. (d : ℕ) → AreOfDimension d normals.now →
+        IsRightVerdict d normals.now k (verdict_of v)) }
+    ensures alone { IfOk result (λ v. (d : ℕ) → AreOfDimension d normals.now →
+        IsNoWall d normals.now k (verdict_of v)) }
     ensures light { IfOk result (λ _. (d : ℕ) → AreOfDimension d normals.now → weight d normals.now < weight_limit) }
     ensures heavy { IfErr result (λ e. (d : ℕ) → AreOfDimension d normals.now → IsHeavyLp (weight d normals.now) e) }
 {

@@ -19,8 +19,10 @@ pub fn rows_of(alloc: Global, normals: &[Normal]) -> Result<Vec<Row>, LpError>
     requires same { All (λ x. length x ≡ length (get_or normals.now 0 [])) normals.now }
     requires positive { (form : List ℤ) × IsPositiveAt form normals.now }
     ensures normals { IfOk result (λ rows. normals_of rows.items ≡ normals.now) }
-    ensures right { IfOk result (λ rows. (d : ℕ) → AreOfDimension d normals.now → (k : ℕ) (r : RowModel) → k < length rows.items → IsRightVerdict d normals.now k (get_or rows.items k r).verdict) }
-    ensures light { IfOk result (λ _. (d : ℕ) → AreOfDimension d normals.now → 0 < length normals.now → weight d normals.now < weight_limit) }
+    ensures right { IfOk result (λ rows. (d : ℕ) → AreOfDimension d normals.now → (k : ℕ) (r : RowModel) →
+        k < length rows.items → IsRightVerdict d normals.now k (get_or rows.items k r).verdict) }
+    ensures light { IfOk result (λ _. (d : ℕ) → AreOfDimension d normals.now → 0 < length normals.now →
+        weight d normals.now < weight_limit) }
     ensures heavy { IfErr result (λ e. (d : ℕ) → AreOfDimension d normals.now → IsHeavyLp (weight d normals.now) e) }
 {
     weigh(normals)?;

@@ -180,7 +180,8 @@ fn entry(d: usize, basis: &Basis, targets: &[Point], k: usize, j: usize) -> Opti
     requires near { AreWithin (limits.span_limit d) targets.now }
     requires row { k < d }
     requires column { j < d }
-    ensures { MatchOption result ((x : ℤ) → IsEntry d basis.now.scales.items basis.now.terms.items targets.now k j x → ⊥) (λ x. IsEntry d basis.now.scales.items basis.now.terms.items targets.now k j x × IsBelow (2 ^ 62) x) }
+    ensures { MatchOption result ((x : ℤ) → IsEntry d basis.now.scales.items basis.now.terms.items targets.now k j x →
+        ⊥) (λ x. IsEntry d basis.now.scales.items basis.now.terms.items targets.now k j x × IsBelow (2 ^ 62) x) }
 {
     let sum = sum_at(d, terms_at(d, basis.terms.as_slice(), j), targets, k);
     exact_quotient(sum, basis.scales[j])
@@ -196,7 +197,10 @@ pub fn matrix_taking(d: usize, basis: &Basis, targets: &[Point]) -> Option<Matri
     requires first { get_or targets.now 0 [] ≡ zeros d }
     requires near { AreWithin (limits.span_limit d) targets.now }
     ensures size { IfSome result (λ u. length u ≡ d * d) }
-    ensures taking { (points : List (List ℤ)) → IsSimplex d points → get_or points 0 [] ≡ zeros d → IsBasis d points basis.now.scales.items basis.now.terms.items → MatchOption result ((w : List (List ℤ)) → IsSquare d w → TakesTo d w points targets.now → ⊥) (λ u. TakesTo d (rows d u) points targets.now) }
+    ensures taking { (points : List (List ℤ)) → IsSimplex d points → get_or points 0 [] ≡ zeros d →
+        IsBasis d points basis.now.scales.items basis.now.terms.items →
+        MatchOption result ((w : List (List ℤ)) → IsSquare d w → TakesTo d w points targets.now →
+        ⊥) (λ u. TakesTo d (rows d u) points targets.now) }
 {
     let mut numbers: ArrayVec<i128, 36> = ArrayVec::new();
     for k in 0..d {

@@ -20,7 +20,8 @@ pub fn all_go(d: usize, u: &Matrix, from: &[Class], start: usize, to: &Triangula
     requires square { length u.now ≡ d * d }
     requires origin { IsTriangulation d from.now }
     requires target { IsTriangulation d to.now }
-    ensures { IsTrue result ↔ ((n : ℕ) → start ≤ n → n < length from.now → GoesInto d (rows d u.now) (get_or from.now n []) to.now) }
+    ensures { IsTrue result ↔ ((n : ℕ) → start ≤ n → n < length from.now →
+        GoesInto d (rows d u.now) (get_or from.now n []) to.now) }
 {
     for n in start..from.len() {
         if !goes_into(d, u, member(from, n), to) {

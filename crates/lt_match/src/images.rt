@@ -52,7 +52,8 @@ fn moved_back(d: usize, points: &[Point]) -> Option<ArrayVec<Point, 7>>
     requires count { length points.now ≡ suc d }
     requires dimension { AllOfDimension d points.now }
     ensures value { IfSome result (λ r. r.items ≡ translate (scale (negsuc 0) (get_or points.now 0 [])) points.now) }
-    ensures within { IsSome result ↔ AreWithin (2 ^ 20) (translate (scale (negsuc 0) (get_or points.now 0 [])) points.now) }
+    ensures within { IsSome result ↔ AreWithin (2 ^ 20)
+        (translate (scale (negsuc 0) (get_or points.now 0 [])) points.now) }
 {
     let mut all: ArrayVec<Point, 7> = ArrayVec::new();
     for point in points {

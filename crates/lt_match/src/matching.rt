@@ -58,7 +58,8 @@ fn attempt(
     requires basis { IsBasis d (get_or from.now 0 []) basis.now.scales.items basis.now.terms.items }
     requires member { Contains to.now s.now }
     requires order { IsOrder (suc d) order.now }
-    ensures { MatchOption result (HasNoMatch d from.now to.now s.now order.now) (λ u. (length u ≡ d * d) × IsMatch d from.now to.now s.now order.now (rows d u)) }
+    ensures { MatchOption result (HasNoMatch d from.now to.now s.now order.now) (λ u. (length u ≡ d * d) ×
+        IsMatch d from.now to.now s.now order.now (rows d u)) }
 {
     let targets = targets(d, s, order);
     let u = match matrix_taking(d, basis, targets.as_slice()) {
@@ -105,7 +106,8 @@ fn may_follow(chosen: &[usize], k: usize, own: &[FacetSignature], facets: &[Face
     requires next { length chosen.now < length own.now }
     requires vertex { k < length facets.now }
     ensures yes { IsTrue result → Contains chosen.now k → ⊥ }
-    ensures no { result ≡ false → Contains chosen.now k ⊎ (get_or own.now (length chosen.now) [] ≢ get_or facets.now k []) }
+    ensures no { result ≡ false → Contains chosen.now k ⊎
+        (get_or own.now (length chosen.now) [] ≢ get_or facets.now k []) }
 {
     !stands_among(chosen, k) && own[chosen.len()] == facets[k]
 }
@@ -130,7 +132,9 @@ fn search(
     requires member { Contains to.now s.now }
     requires signed { AreSigned d from.now to.now s.now own.now facets.now }
     requires chosen { IsBeginning (suc d) chosen.now }
-    ensures { MatchOption result ((p : List ℕ) → BeginsWith chosen.now p → HasNoMatch d from.now to.now s.now p) (λ u. (length u ≡ d * d) × IsFirstOrder d from.now to.now s.now chosen.now (rows d u)) }
+    ensures { MatchOption result ((p : List ℕ) → BeginsWith chosen.now p →
+        HasNoMatch d from.now to.now s.now p) (λ u. (length u ≡ d * d) ×
+        IsFirstOrder d from.now to.now s.now chosen.now (rows d u)) }
 {
     if chosen.len() > d {
         return attempt(d, basis, from, to, s, chosen);
@@ -189,7 +193,9 @@ fn first_match(
     requires signatures { AreClassSignatures (dimension_of to.now) to.now others.now }
     requires count { length from.now ≡ length to.now }
     requires places { ArePlaces d from.now to.now places.now }
-    ensures { MatchOption result ((n : ℕ) → n < length to.now → (q : List ℕ) → HasNoMatch d from.now to.now (get_or to.now n []) q) (λ u. (length u ≡ d * d) × IsFirstMatch d from.now to.now (rows d u)) }
+    ensures { MatchOption result ((n : ℕ) → n < length to.now → (q : List ℕ) →
+        HasNoMatch d from.now to.now (get_or to.now n []) q) (λ u. (length u ≡ d * d) ×
+        IsFirstMatch d from.now to.now (rows d u)) }
 {
     let basis = basis_of(d, from.class(0).vertices());
     let first = near_signatures(from, 0);
@@ -225,7 +231,8 @@ pub fn match_types(
     requires delaunay { IsOfSomeForm from.now }
     requires delaunay_too { IsOfSomeForm to.now }
     ensures size { IfOk result (λ r. IfSome r (λ u. length u ≡ dimension_of from.now * dimension_of from.now)) }
-    ensures first { IfOk result (λ r. MatchOption r (AreEquivalent (dimension_of from.now) from.now to.now → ⊥) (λ u. IsFirstMatch (dimension_of from.now) from.now to.now (rows (dimension_of from.now) u))) }
+    ensures first { IfOk result (λ r. MatchOption r (AreEquivalent (dimension_of from.now) from.now to.now →
+        ⊥) (λ u. IsFirstMatch (dimension_of from.now) from.now to.now (rows (dimension_of from.now) u))) }
 {
     let d = from.dimension() as usize;
     let _same = to.dimension();

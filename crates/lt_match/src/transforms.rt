@@ -103,7 +103,8 @@ pub fn image(alloc: Global, u: &Matrix, t: &Triangulation) -> Result<Triangulati
     requires square { length u.now ≡ dimension_of t.now * dimension_of t.now }
     requires inverse { (v : List (List ℤ)) × IsInverse (dimension_of t.now) (rows (dimension_of t.now) u.now) v }
     ensures made { IfOk result (λ r. Carries (dimension_of t.now) (rows (dimension_of t.now) u.now) t.now r) }
-    ensures wide { (span : ℤ) → result ≡ Err (Wide span) → IsWideImage (dimension_of t.now) (rows (dimension_of t.now) u.now) t.now span }
+    ensures wide { (span : ℤ) → result ≡ Err (Wide span) →
+        IsWideImage (dimension_of t.now) (rows (dimension_of t.now) u.now) t.now span }
 {
     let d = t.dimension() as usize;
     let span = i64::from(widest_image(d, u, t));

@@ -15,7 +15,8 @@ use lt_io::{Block, Failed, Sink};
 
 /// Writes the version, the dimension and the number of entries by way of the block.
 fn gather_head<K: Sink>(block: &mut Block, out: &mut K, atlas: &Atlas) -> Result<(), Failed>
-    ensures bytes { Gathered (K.held out.old) (K.held out.new) block.old.held block.new.held result (head_text atlas.now.dimension (length atlas.now.entries)) }
+    ensures bytes { Gathered (K.held out.old) (K.held out.new) block.old.held block.new.held result
+        (head_text atlas.now.dimension (length atlas.now.entries)) }
     ensures cause { HasCause (K.faults out.old) (K.faults out.new) result }
 {
     gather_count(block, out, b"ltypes", 2)?;
@@ -25,7 +26,8 @@ fn gather_head<K: Sink>(block: &mut Block, out: &mut K, atlas: &Atlas) -> Result
 
 /// Writes the entries by way of the block.
 fn gather_entries<K: Sink>(block: &mut Block, out: &mut K, atlas: &Atlas) -> Result<(), Failed>
-    ensures bytes { Gathered (K.held out.old) (K.held out.new) block.old.held block.new.held result (entries_text atlas.now.marks 0 atlas.now.entries) }
+    ensures bytes { Gathered (K.held out.old) (K.held out.new) block.old.held block.new.held result
+        (entries_text atlas.now.marks 0 atlas.now.entries) }
     ensures cause { HasCause (K.faults out.old) (K.faults out.new) result }
 {
     // It shows that each entry has its marks.
@@ -38,7 +40,8 @@ fn gather_entries<K: Sink>(block: &mut Block, out: &mut K, atlas: &Atlas) -> Res
 
 /// Writes the text by way of the block.
 fn gather_atlas<K: Sink>(block: &mut Block, out: &mut K, atlas: &Atlas) -> Result<(), Failed>
-    ensures bytes { Gathered (K.held out.old) (K.held out.new) block.old.held block.new.held result (atlas_text atlas.now) }
+    ensures bytes { Gathered (K.held out.old) (K.held out.new) block.old.held block.new.held result
+        (atlas_text atlas.now) }
     ensures cause { HasCause (K.faults out.old) (K.faults out.new) result }
 {
     gather_head(block, out, atlas)?;

@@ -64,7 +64,8 @@ fn gather_classes<K: Sink>(
     out: &mut K,
     triangulation: &Triangulation,
 ) -> Result<(), Failed>
-    ensures bytes { Gathered (K.held out.old) (K.held out.new) block.old.held block.new.held result (class_lines triangulation.now) }
+    ensures bytes { Gathered (K.held out.old) (K.held out.new) block.old.held block.new.held result
+        (class_lines triangulation.now) }
     ensures cause { HasCause (K.faults out.old) (K.faults out.new) result }
 {
     for i in 0..triangulation.len() {
@@ -79,7 +80,8 @@ fn gather_triangulation<K: Sink>(
     out: &mut K,
     triangulation: &Triangulation,
 ) -> Result<(), Failed>
-    ensures bytes { Gathered (K.held out.old) (K.held out.new) block.old.held block.new.held result (triangulation_text triangulation.now) }
+    ensures bytes { Gathered (K.held out.old) (K.held out.new) block.old.held block.new.held result
+        (triangulation_text triangulation.now) }
     ensures cause { HasCause (K.faults out.old) (K.faults out.new) result }
 {
     gather_count(block, out, b"simplices", triangulation.len() as u64)?;

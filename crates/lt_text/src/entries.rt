@@ -59,7 +59,8 @@ pub fn gather_entry<K: Sink>(
     entry: &Entry,
     marks: &[Mark],
 ) -> Result<(), Failed>
-    ensures bytes { Gathered (K.held out.old) (K.held out.new) block.old.held block.new.held result (entry_text number (entry_of entry.now) (map mark_of marks.now)) }
+    ensures bytes { Gathered (K.held out.old) (K.held out.new) block.old.held block.new.held result
+        (entry_text number (entry_of entry.now) (map mark_of marks.now)) }
     ensures cause { HasCause (K.faults out.old) (K.faults out.new) result }
 {
     let from = entry.origin;

@@ -78,7 +78,8 @@ pub fn gather_line<K: Sink>(
     word: &[u8],
     numbers: &[i128],
 ) -> Result<(), Failed>
-    ensures bytes { Gathered (K.held out.old) (K.held out.new) block.old.held block.new.held result (line word.now numbers.now) }
+    ensures bytes { Gathered (K.held out.old) (K.held out.new) block.old.held block.new.held result
+        (line word.now numbers.now) }
     ensures cause { HasCause (K.faults out.old) (K.faults out.new) result }
 {
     gather(block, out, &Words { word, numbers })
@@ -91,7 +92,8 @@ pub fn gather_count<K: Sink>(
     word: &[u8],
     count: u64,
 ) -> Result<(), Failed>
-    ensures bytes { Gathered (K.held out.old) (K.held out.new) block.old.held block.new.held result (line word.now (pos count ∷ [])) }
+    ensures bytes { Gathered (K.held out.old) (K.held out.new) block.old.held block.new.held result
+        (line word.now (pos count ∷ [])) }
     ensures cause { HasCause (K.faults out.old) (K.faults out.new) result }
 {
     gather_line(block, out, word, &[count as i128])

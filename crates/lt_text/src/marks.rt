@@ -58,7 +58,8 @@ impl Line for Mark {
 
 /// Writes a line for each mark by way of the block.
 fn gather_each<K: Sink>(block: &mut Block, out: &mut K, marks: &[Mark]) -> Result<(), Failed>
-    ensures bytes { Gathered (K.held out.old) (K.held out.new) block.old.held block.new.held result (flat_map (λ m. mark_line (mark_of m)) marks.now) }
+    ensures bytes { Gathered (K.held out.old) (K.held out.new) block.old.held block.new.held result (flat_map
+        (λ m. mark_line (mark_of m)) marks.now) }
     ensures cause { HasCause (K.faults out.old) (K.faults out.new) result }
 {
     for mark in marks {
@@ -69,7 +70,8 @@ fn gather_each<K: Sink>(block: &mut Block, out: &mut K, marks: &[Mark]) -> Resul
 
 /// Writes the number of marks and the marks by way of the block.
 pub fn gather_marks<K: Sink>(block: &mut Block, out: &mut K, marks: &[Mark]) -> Result<(), Failed>
-    ensures bytes { Gathered (K.held out.old) (K.held out.new) block.old.held block.new.held result (marks_text (map mark_of marks.now)) }
+    ensures bytes { Gathered (K.held out.old) (K.held out.new) block.old.held block.new.held result
+        (marks_text (map mark_of marks.now)) }
     ensures cause { HasCause (K.faults out.old) (K.faults out.new) result }
 {
     gather_count(block, out, b"marks", marks.len() as u64)?;

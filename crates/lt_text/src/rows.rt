@@ -63,7 +63,8 @@ fn write_redundant<K: Sink>(
     scale: &i128,
     terms: &Terms,
 ) -> Result<(), Failed>
-    ensures bytes { Wrote (K.held out.old) (K.held out.new) result (verdict_line normal.now (combination scale.now terms.now.items)) }
+    ensures bytes { Wrote (K.held out.old) (K.held out.new) result
+        (verdict_line normal.now (combination scale.now terms.now.items)) }
     ensures cause { HasCause (K.faults out.old) (K.faults out.new) result }
 {
     write_start(out, b"redundant", normal.numbers())?;
@@ -91,7 +92,8 @@ impl Line for Row {
 
 /// Writes a line for each row by way of the block.
 fn gather_rows<K: Sink>(block: &mut Block, out: &mut K, rows: &[Row]) -> Result<(), Failed>
-    ensures bytes { Gathered (K.held out.old) (K.held out.new) block.old.held block.new.held result (flat_map row_line rows.now) }
+    ensures bytes { Gathered (K.held out.old) (K.held out.new) block.old.held block.new.held result
+        (flat_map row_line rows.now) }
     ensures cause { HasCause (K.faults out.old) (K.faults out.new) result }
 {
     for row in rows {
@@ -102,7 +104,8 @@ fn gather_rows<K: Sink>(block: &mut Block, out: &mut K, rows: &[Row]) -> Result<
 
 /// Writes the number of rows and the rows by way of the block.
 fn gather_regulators<K: Sink>(block: &mut Block, out: &mut K, rows: &[Row]) -> Result<(), Failed>
-    ensures bytes { Gathered (K.held out.old) (K.held out.new) block.old.held block.new.held result (rows_text rows.now) }
+    ensures bytes { Gathered (K.held out.old) (K.held out.new) block.old.held block.new.held result
+        (rows_text rows.now) }
     ensures cause { HasCause (K.faults out.old) (K.faults out.new) result }
 {
     gather_count(block, out, b"regulators", rows.len() as u64)?;
@@ -111,7 +114,8 @@ fn gather_regulators<K: Sink>(block: &mut Block, out: &mut K, rows: &[Row]) -> R
 
 /// Writes the rows and the form of a cone by way of the block.
 pub fn gather_cone<K: Sink>(block: &mut Block, out: &mut K, cone: &Cone) -> Result<(), Failed>
-    ensures bytes { Gathered (K.held out.old) (K.held out.new) block.old.held block.new.held result (cone_text cone.now) }
+    ensures bytes { Gathered (K.held out.old) (K.held out.new) block.old.held block.new.held result
+        (cone_text cone.now) }
     ensures cause { HasCause (K.faults out.old) (K.faults out.new) result }
 {
     gather_regulators(block, out, cone.rows.as_slice())?;

@@ -137,7 +137,8 @@ impl Class {
     pub fn facet(&self, i: usize) -> (ArrayVec<Point, 6>, Point)
         requires { i < length self.now }
         ensures least { result.1 ≡ get_or (without i self.now) 0 [] }
-        ensures moved { result.0.items ≡ translate (scale (negsuc 0) (get_or (without i self.now) 0 [])) (without i self.now) }
+        ensures moved { result.0.items ≡ translate (scale (negsuc 0) (get_or (without i self.now) 0 []))
+            (without i self.now) }
     {
         let rest = others(self.points.as_slice(), i);
         let least = first_of(rest.as_slice());

@@ -67,7 +67,8 @@ pub fn flat_terms(terms: &[i128]) -> ArrayVec<i128, 7>
     requires few { length terms.now ≤ 6 }
     requires below { AreBelow answer_limit terms.now }
     requires some { leading terms.now ≢ pos 0 }
-    ensures either { (result.items ≡ neg_ℤ (total terms.now) ∷ terms.now) ⊎ (result.items ≡ scale (negsuc 0) (neg_ℤ (total terms.now) ∷ terms.now)) }
+    ensures either { (result.items ≡ neg_ℤ (total terms.now) ∷ terms.now) ⊎
+        (result.items ≡ scale (negsuc 0) (neg_ℤ (total terms.now) ∷ terms.now)) }
     ensures sign { pos 0 <ℤ leading result.items }
 {
     let all = with_first(-total_of(terms), terms);

@@ -37,7 +37,8 @@ fn bucket_of(d: usize, classes: &[Class], n: usize, codes: &[i64], j: usize) -> 
 
 /// As many empty buckets.
 fn empty_buckets(alloc: Global, count: usize) -> Result<Vec<Vec<(usize, usize)>>, Memory>
-    ensures { IfOk result (λ bs. (length (buckets_of bs.items) ≡ count) × ((b : ℕ) → get_or (buckets_of bs.items) b [] ≡ [])) }
+    ensures { IfOk result (λ bs. (length (buckets_of bs.items) ≡ count) ×
+        ((b : ℕ) → get_or (buckets_of bs.items) b [] ≡ [])) }
 {
     let mut buckets = Vec::new(alloc);
     for _b in 0..count {
@@ -53,7 +54,8 @@ fn put(
     facet: (usize, usize),
 ) -> Result<(), Memory>
     requires { bucket < length (buckets_of buckets.old.items) }
-    ensures { IfOk result (λ _. buckets_of buckets.new.items ≡ set (buckets_of buckets.old.items) bucket (get_or (buckets_of buckets.old.items) bucket [] ++ facet ∷ [])) }
+    ensures { IfOk result (λ _. buckets_of buckets.new.items
+        ≡ set (buckets_of buckets.old.items) bucket (get_or (buckets_of buckets.old.items) bucket [] ++ facet ∷ [])) }
 {
     buckets[bucket].push(facet)?;
     Ok(())
@@ -112,8 +114,11 @@ fn facing_at(
     requires place { i < suc d }
     requires class_too { class < length classes.now }
     requires place_too { vertex < suc d }
-    ensures facing { MatchOption result (IsNotFacing d (get_or classes.now n []) i (get_or classes.now class []) vertex) (λ r. IsFacing d (get_or classes.now n []) i (get_or classes.now class []) r.0 vertex) }
-    ensures outer { IfSome result (λ r. IsOuterIn (get_or classes.now n []) (get_or classes.now class []) r.0 vertex r.1.vertex r.1.expression.scale r.1.expression.coefficients.items) }
+    ensures facing { MatchOption result (IsNotFacing d (get_or classes.now n []) i
+        (get_or classes.now class []) vertex)
+        (λ r. IsFacing d (get_or classes.now n []) i (get_or classes.now class []) r.0 vertex) }
+    ensures outer { IfSome result (λ r. IsOuterIn (get_or classes.now n [])
+        (get_or classes.now class []) r.0 vertex r.1.vertex r.1.expression.scale r.1.expression.coefficients.items) }
 {
     if class == n && vertex == i {
         None

@@ -103,7 +103,8 @@ fn same_differences(a: &[i32], b: &[i32], c: &[i32], e: &[i32]) -> bool
 fn are_parallel(d: usize, s: &[Point], i: usize, next: &[Point], j: usize) -> bool
     requires facet { HasFacet d s.now i }
     requires facet_too { HasFacet d next.now j }
-    ensures { IsTrue result ↔ (translate (minus (get_or (without i s.now) 0 []) (get_or (without j next.now) 0 [])) (without j next.now) ≡ without i s.now) }
+    ensures { IsTrue result ↔ (translate (minus (get_or (without i s.now) 0 []) (get_or (without j next.now) 0 []))
+        (without j next.now) ≡ without i s.now) }
 {
     let to = facet_vertex(s, i, 0).coords();
     let start = facet_vertex(next, j, 0).coords();
@@ -164,7 +165,8 @@ pub fn facing(
     requires near { AreNear (span_limit d) s.now }
     requires near_too { AreNear (span_limit d) next.now }
     ensures facing { MatchOption result (IsNotFacing d s.now i next.now j) (λ r. IsFacing d s.now i next.now r.0 j) }
-    ensures outer { IfSome result (λ r. IsOuterIn s.now next.now r.0 j r.1.vertex r.1.expression.scale r.1.expression.coefficients.items) }
+    ensures outer { IfSome result
+        (λ r. IsOuterIn s.now next.now r.0 j r.1.vertex r.1.expression.scale r.1.expression.coefficients.items) }
 {
     let points = s.vertices();
     if !are_parallel(d, points, i, next, j) {

@@ -67,7 +67,8 @@ fn row_of(
     requires rows { AreRows d classes.now n rows.now }
     requires class { n < length classes.now }
     ensures row { IfOk result (IsRow d classes.now (get_or classes.now n [])) }
-    ensures open { (class facet : ℕ) → result ≡ Err (OpenFacet class facet) → (class ≡ n) × IsFirstOpenOf d classes.now (get_or classes.now n []) facet }
+    ensures open { (class facet : ℕ) → result ≡ Err (OpenFacet class facet) → (class ≡ n) ×
+        IsFirstOpenOf d classes.now (get_or classes.now n []) facet }
 {
     let columns = class_at(classes, n).columns();
     let codes = point_codes(member(classes, n));

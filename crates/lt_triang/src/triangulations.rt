@@ -101,7 +101,8 @@ impl Triangulation {
         requires occupied { 0 < length classes.items }
         requires classes { AreClasses (length (get_or classes.items 0 []) - 1) classes.items }
         ensures made { IfOk result (λ t. (s : List (List ℤ)) → Contains t s ↔ Contains classes.items s) }
-        ensures open { (class facet : ℕ) → result ≡ Err (OpenFacet class facet) → IsOpenAnswer (length (get_or classes.items 0 []) - 1) classes.items class facet }
+        ensures open { (class facet : ℕ) → result ≡ Err (OpenFacet class facet) →
+            IsOpenAnswer (length (get_or classes.items 0 []) - 1) classes.items class facet }
     {
         let d = dimension_of(classes.as_slice());
         let distinct = sorted_distinct(classes);
@@ -177,7 +178,8 @@ impl Triangulation {
     pub fn neighbour(&self, class: usize, facet: usize) -> Neighbour
         requires class { class < length self.now }
         requires facet { facet < length (get_or self.now class []) }
-        ensures { IsFirstAcross (length (get_or self.now class []) - 1) self.now (get_or self.now class []) facet result.class result.shift result.vertex }
+        ensures { IsFirstAcross (length (get_or self.now class []) - 1) self.now
+            (get_or self.now class []) facet result.class result.shift result.vertex }
     {
         let d = usize::from(self.dimension());
         let wall = self.wall(class, facet);
@@ -225,7 +227,8 @@ impl Triangulation {
         ensures vertex { IsOuterVertex (dimension_of self.now) self.now (get_or self.now class []) facet result.vertex }
         ensures dimension { length result.vertex ≡ dimension_of self.now }
         ensures near { All (IsWithin (2 * span_limit (dimension_of self.now))) result.vertex }
-        ensures expression { IsExpression (get_or self.now class []) result.vertex result.expression.scale result.expression.coefficients.items }
+        ensures expression { IsExpression
+            (get_or self.now class []) result.vertex result.expression.scale result.expression.coefficients.items }
         ensures primitive { IsPrimitive (result.expression.scale ∷ result.expression.coefficients.items) }
         ensures below { AreBelow (2 ^ 59) (result.expression.scale ∷ result.expression.coefficients.items) }
     {
