@@ -1,5 +1,5 @@
 -- Sums that start from zeros: the same numbers as without them, and never fewer.
-use Rattle.std.proofs.Common.{◌≡◌, ◌⊎◌, inl, inr, refl, sym, ◌∙◌, ap, arith, ℕ, ℤ, pos, ◌+ℤ◌, List, [], length}
+use Rattle.std.proofs.Common.{◌≡◌, ◌⊎◌, inl, inr, sym, ◌∙◌, ap, arith, ℕ, ℤ, pos, ◌+ℤ◌, List, [], length}
 use Rattle.std.proofs.lemmas.Int.{ints}
 use Rattle.lt_model.specs.Padded.{lookup}
 use Rattle.lt_model.specs.Vectors.{plus, dot, zeros}

@@ -1,6 +1,5 @@
 -- The pivot rule over tableaux.
 use Rattle.std.specs.Prelude.{List, [], ◌∷◌, neg_ℤ, ◌≡◌, ◌≢◌, ℕ, zero, suc, ◌+◌, ◌-◌, ◌≤◌, ◌<◌, ℤ, pos, ◌*ℤ◌, ◌<ℤ◌, ◌≤ℤ◌, ◌⊎◌, cond, nat_le, set, ◌*◌, ◌/◌, ◌^◌, ◌+ℤ◌, nat_abs}
-use Rattle.lt_model.specs.Padded.{lookup}
 use Rattle.lt_tableau.specs.Numbers.{sum_below, IsPivoted}
 use Rattle.lt_tableau.specs.Table.{Table, IsTableau, entry_of, right_of, basic_of, count_of, units_of}
 use Rattle.lt_tableau.specs.Numbers.{column_at}
@@ -23,14 +22,6 @@ gain_of t column = unit_sum t (λ (row : ℕ). entry_of t row column)
 -- the number in the row and the unit column at the place q among the unit columns
 abbrev pub unit_entry : Table → ℕ → ℕ → ℤ
 unit_entry t row q = entry_of t row (units_of t + q)
-
--- the first m numbers of the column are below 2^31 in absolute value
-abbrev pub AreNarrow : ℕ → List ℤ → Type 0
-AreNarrow m column = (q : ℕ) → q < m → nat_abs (lookup column q) < 2 ^ 31
-
--- so are the numbers of each column of the system before the unit columns
-abbrev pub IsNarrow : Table → Type 0
-IsNarrow t = (column : ℕ) → column < units_of t → AreNarrow t.rows (column_at t.system column)
 
 -- the row's list: the right side, then the unit columns from the last to the first
 abbrev pub number_of : Table → ℕ → ℕ → ℤ

@@ -9,7 +9,6 @@ mod cones;
 mod copies;
 mod deciding;
 mod laws;
-mod narrow;
 mod primitives;
 mod rows;
 mod rule;

@@ -6,19 +6,16 @@ ghost use Rattle.lt_model.specs.Limits.{weight, weight_limit};
 ghost use Rattle.lt_tableau.specs.Table.{IsTableau, count_of, entry_of, units_of};
 ghost use Rattle.lt_tableau.specs.System.{system_of};
 ghost use Rattle.lt_tableau.specs.Errors.{AreOfDimension};
-ghost use Rattle.lt_lp.specs.Rule.{objective_of, gain_of, number_of, IsNarrow, IsBefore, IsLeaving, IsReady, IsStopped, IsEarlier};
+ghost use Rattle.lt_lp.specs.Rule.{objective_of, gain_of, number_of, IsBefore, IsLeaving, IsReady, IsStopped, IsEarlier};
 
-use crate::narrow::{are_narrow, are_short};
-use crate::sums::{first_unit, gains, objective, unit_sums};
+use crate::sums::{first_unit, gain, objective, unit_sums};
 use lt_lattice::Normal;
 use lt_model::Memory;
 use lt_tableau::Tableau;
 use std::alloc::Global;
 
-/// The first column whose reduced cost is negative, unless the objective is 0. Where `narrow` says that the system's numbers are narrow,
-/// and the sums are short, no sum takes 128 bits.
-fn entering(t: &Tableau, narrow: bool) -> Option<usize>
-    requires { IsTrue narrow → IsNarrow t.now }
+/// The first column whose reduced cost is negative, unless the objective is 0.
+fn entering(t: &Tableau) -> Option<usize>
     ensures inside { IfSome result (λ column. column < units_of t.now) }
     ensures gains { IfSome result (λ column. pos 0 <ℤ gain_of t.now column) }
     ensures stopped { IfNone result (IsStopped t.now) }
@@ -27,9 +24,8 @@ fn entering(t: &Tableau, narrow: bool) -> Option<usize>
         return None;
     }
     let sums = unit_sums(t);
-    let short = narrow && are_short(&sums);
     for column in 0..first_unit(t) {
-        if gains(t, &sums, short, column) {
+        if gain(t, &sums, column) > 0 {
             return Some(column);
         }
     }
@@ -51,29 +47,16 @@ fn number(t: &Tableau, row: usize, place: usize) -> i128
     }
 }
 
-/// The numbers of the column, which each step of the rule compares.
-fn numbers_of(t: &Tableau, column: usize) -> [i128; 22]
-    requires { column < count_of t.now }
-    ensures { (row : ℕ) → row < t.now.rows → get_or result row (pos 0) ≡ entry_of t.now row column }
-{
-    let mut numbers = [0i128; 22];
-    for row in 0..t.rows() {
-        numbers[row] = t.entry(row, column);
-    }
-    numbers
-}
-
 /// The product of two numbers of a tableau. They fit into 64 bits, so that it takes one multiplication.
-fn product(a: i128, b: i128) -> i128
-    requires left { nat_abs a < 2 ^ 56 }
-    requires right { nat_abs b < 2 ^ 56 }
+fn product(a: i128, b: i64) -> i128
+    requires { nat_abs a < 2 ^ 56 }
     ensures { result ≡ a *ℤ b }
 {
-    a as i64 as i128 * b as i64 as i128
+    a as i64 as i128 * b as i128
 }
 
 /// Whether the list of the row `a`, over its number in the column, is lexicographically less than that of the row `b`.
-fn is_before(t: &Tableau, numbers: &[i128; 22], column: usize, a: usize, b: usize) -> bool
+fn is_before(t: &Tableau, numbers: &[i64; 22], column: usize, a: usize, b: usize) -> bool
     requires inside { column < units_of t.now }
     requires values { (row : ℕ) → row < t.now.rows → get_or numbers.now row (pos 0) ≡ entry_of t.now row column }
     requires a_in { a < t.now.rows }
@@ -101,7 +84,7 @@ fn is_before(t: &Tableau, numbers: &[i128; 22], column: usize, a: usize, b: usiz
 }
 
 /// The one of the two rows that leaves before the other.
-fn earlier(t: &Tableau, numbers: &[i128; 22], column: usize, row: usize, best: usize) -> usize
+fn earlier(t: &Tableau, numbers: &[i64; 22], column: usize, row: usize, best: usize) -> usize
     requires inside { column < units_of t.now }
     requires values { (row : ℕ) → row < t.now.rows → get_or numbers.now row (pos 0) ≡ entry_of t.now row column }
     requires row_in { row < t.now.rows }
@@ -125,7 +108,7 @@ fn earlier(t: &Tableau, numbers: &[i128; 22], column: usize, row: usize, best: u
 }
 
 /// The first row whose number in the column is positive.
-fn first_positive(t: &Tableau, numbers: &[i128; 22], column: usize) -> usize
+fn first_positive(t: &Tableau, numbers: &[i64; 22], column: usize) -> usize
     requires inside { column < units_of t.now }
     requires values { (row : ℕ) → row < t.now.rows → get_or numbers.now row (pos 0) ≡ entry_of t.now row column }
     requires gains { pos 0 <ℤ gain_of t.now column }
@@ -141,16 +124,16 @@ fn first_positive(t: &Tableau, numbers: &[i128; 22], column: usize) -> usize
     unreachable!()
 }
 
-/// The row that leaves for the column.
-fn leaving(t: &Tableau, column: usize) -> usize
+/// The row that leaves for the column, whose numbers these are.
+fn leaving(t: &Tableau, numbers: &[i64; 22], column: usize) -> usize
     requires inside { column < units_of t.now }
+    requires values { (row : ℕ) → row < t.now.rows → get_or numbers.now row (pos 0) ≡ entry_of t.now row column }
     requires gains { pos 0 <ℤ gain_of t.now column }
     ensures { IsLeaving t.now column result }
 {
-    let numbers = numbers_of(t, column);
-    let mut best = first_positive(t, &numbers, column);
+    let mut best = first_positive(t, numbers, column);
     for row in 0..t.rows() {
-        best = earlier(t, &numbers, column, row, best);
+        best = earlier(t, numbers, column, row, best);
     }
     best
 }
@@ -164,10 +147,10 @@ fn run(tableau: Tableau) -> Tableau
     ensures rows { result.rows ≡ tableau.rows }
 {
     let mut t = tableau;
-    let narrow = are_narrow(&t);
-    while let Some(column) = entering(&t, narrow) {
-        let row = leaving(&t, column);
-        t.pivot(row, column);
+    while let Some(column) = entering(&t) {
+        let numbers = t.column(column);
+        let row = leaving(&t, &numbers, column);
+        t.pivot_by(row, column, &numbers);
     }
     t
 }

@@ -12,3 +12,5 @@ pub mod Fits
 pub mod Turned
 pub mod Made
 pub mod Bounds
+pub mod Wraps
+pub mod Multiples

@@ -1,6 +1,7 @@
 //! The tableau of the pivot rule in whole numbers over one denominator, and the weight that bounds them.
 #![tactic(auto)]
 
+mod divisors;
 mod error;
 mod pivots;
 mod systems;

@@ -1,4 +1,4 @@
-use Rattle.std.proofs.Common.{arith, refl, ◌≡◌, sym, ◌∙◌, subst, ◌<◌, ◌≤◌, ◌^◌, ℕ, ℤ, List, [], ◌∷◌, length, get_or, nat_abs, Bool, true, false}
+use Rattle.std.proofs.Common.{refl, ◌≡◌, sym, ◌∙◌, subst, ◌<◌, ◌^◌, [], ◌∷◌, length, get_or, nat_abs, Bool, true, false}
 use Rattle.std.proofs.lemmas.Int.{to_z-of_z}
 use Rattle.std.proofs.lemmas.List.Elements.{All-cons}
 use Rattle.lt_model.specs.Vectors.{IsPrimitive}

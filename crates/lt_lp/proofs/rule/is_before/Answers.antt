@@ -1,5 +1,5 @@
 use Rattle.std.proofs.Common.{◌≡◌, sym, ◌*ℤ◌, ◌<ℤ◌, pos, get_or, arith, rules, FitsSigned}
-use Rattle.std.specs.Int.{w128}
+use Rattle.std.specs.Int.{w64, w128}
 use Rattle.std.proofs.lemmas.Int.{ints, to_z-of_z}
 use Rattle.lt_lp.proofs.Loops.{tied_more}
 use Rattle.lt_lp.proofs.Leaves.{no_tie}
@@ -13,9 +13,9 @@ unreachable-requires c =
 pub returns-then-left-right-clause-yes : goal.returns-then-left-right-clause-yes
 returns-then-left-right-clause-yes c = λ _.
     let x : FitsSigned w128 c.number.result = search rules in
-    let y : FitsSigned w128 (get_or c.args.numbers.now c.args.b (pos 0)) = search rules in
+    let y : FitsSigned w64 (get_or c.args.numbers.now c.args.b (pos 0)) = search rules in
     let z : FitsSigned w128 c.number-in-loop-place.result = search rules in
-    let w : FitsSigned w128 (get_or c.args.numbers.now c.args.a (pos 0)) = search rules in
+    let w : FitsSigned w64 (get_or c.args.numbers.now c.args.a (pos 0)) = search rules in
     let u : FitsSigned w128 c.product-left.result = search rules in
     let r : FitsSigned w128 c.product-right.result = search rules in
     let p : c.product-left.result ≡ c.number.result *ℤ get_or c.args.numbers.now c.args.b (pos 0) = simp to_z-of_z at c.product-left.ensures in
@@ -34,9 +34,9 @@ returns-then-left-right-clause-yes c = λ _.
 pub returns-then-right-left-clause-no : goal.returns-then-right-left-clause-no
 returns-then-right-left-clause-no c = λ _.
     let x : FitsSigned w128 c.number.result = search rules in
-    let y : FitsSigned w128 (get_or c.args.numbers.now c.args.b (pos 0)) = search rules in
+    let y : FitsSigned w64 (get_or c.args.numbers.now c.args.b (pos 0)) = search rules in
     let z : FitsSigned w128 c.number-in-loop-place.result = search rules in
-    let w : FitsSigned w128 (get_or c.args.numbers.now c.args.a (pos 0)) = search rules in
+    let w : FitsSigned w64 (get_or c.args.numbers.now c.args.a (pos 0)) = search rules in
     let u : FitsSigned w128 c.product-left.result = search rules in
     let r : FitsSigned w128 c.product-right.result = search rules in
     let p : c.product-left.result ≡ c.number.result *ℤ get_or c.args.numbers.now c.args.b (pos 0) = simp to_z-of_z at c.product-left.ensures in
@@ -55,9 +55,9 @@ returns-then-right-left-clause-no c = λ _.
 pub loop-place-preserved : goal.loop-place-preserved
 loop-place-preserved c =
     let x : FitsSigned w128 c.number.result = search rules in
-    let y : FitsSigned w128 (get_or c.args.numbers.now c.args.b (pos 0)) = search rules in
+    let y : FitsSigned w64 (get_or c.args.numbers.now c.args.b (pos 0)) = search rules in
     let z : FitsSigned w128 c.number-in-loop-place.result = search rules in
-    let w : FitsSigned w128 (get_or c.args.numbers.now c.args.a (pos 0)) = search rules in
+    let w : FitsSigned w64 (get_or c.args.numbers.now c.args.a (pos 0)) = search rules in
     let u : FitsSigned w128 c.product-left.result = search rules in
     let r : FitsSigned w128 c.product-right.result = search rules in
     let p : c.product-left.result ≡ c.number.result *ℤ get_or c.args.numbers.now c.args.b (pos 0) = simp to_z-of_z at c.product-left.ensures in

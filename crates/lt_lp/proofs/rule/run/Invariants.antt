@@ -1,6 +1,5 @@
 use Rattle.std.proofs.Common.{◌≡◌}
-use Rattle.std.specs.Bool.{IsTrue}
-use Rattle.lt_lp.specs.Rule.{IsReady, IsNarrow, measure_of}
+use Rattle.lt_lp.specs.Rule.{IsReady, measure_of}
 use Rattle.lt_lp.proofs.rule.run.Given as goal
 
 abbrev pub invariant-loop-column : goal.invariant-loop-column
@@ -8,7 +7,6 @@ invariant-loop-column l = record {
   ready : IsReady l.t;
   system : l.t.system ≡ l.fn.tableau.system;
   rows : l.t.rows ≡ l.fn.tableau.rows;
-  narrow : IsTrue l.narrow → IsNarrow l.t;
 }
 
 abbrev pub decreases-loop-column : goal.decreases-loop-column

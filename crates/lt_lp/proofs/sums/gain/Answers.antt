@@ -1,56 +1,41 @@
-use Rattle.std.proofs.Common.{◌≡◌, ◌<◌, ◌≤◌, ◌+◌, ◌*◌, ◌^◌, ◌*ℤ◌, ◌+ℤ◌, sym, ◌∙◌, ap, ap₂, ℕ, ℤ, pos, nat_abs, get_or, arith, rules, FitsSigned, to_z}
-use Rattle.std.specs.Int.{w64, w128}
-use Rattle.std.proofs.lemmas.Int.{ints, to_z-of_z, fits_signed_from_abs}
+use Rattle.std.proofs.Common.{◌≡◌, ◌+◌, ◌*◌, ◌%◌, ◌^◌, ◌*ℤ◌, ◌+ℤ◌, sym, ◌∙◌, ap, ap₂, ℕ, ℤ, pos, List, get_or, arith, rules, FitsSigned, to_z}
+use Rattle.std.specs.Int.{int_wrap, w64}
+use Rattle.std.proofs.lemmas.Int.{int_wrap_fits, int_wrap-add_right, fits_signed_from_abs, wrapping_add-bits, wrapping_mul_is}
+use mir.Val.{of_z}
 use Rattle.lt_model.specs.Padded.{lookup}
 use Rattle.lt_tableau.specs.Numbers.{column_at, sum_below}
-use Rattle.lt_tableau.specs.Table.{units_of}
+use Rattle.lt_tableau.specs.Table.{entry_of, units_of}
 use Rattle.lt_lp.specs.Rule.{gain_of}
-use Rattle.lt_tableau.proofs.Sums.{lookup_is, sum_more, sum_same}
+use Rattle.lt_tableau.proofs.Sums.{lookup_is, sum_same}
+use Rattle.lt_tableau.proofs.Multiples.{sum_step, zero_wraps}
+use Rattle.lt_lp.proofs.Falls.{unit_sum_small}
 use Rattle.lt_lp.proofs.Signs.{gain_law}
 use Rattle.lt_lp.proofs.sums.gain.Goals as goal
 
-sizes : (s x : ℤ) (q : ℕ) → q < 22 → nat_abs s ≤ q * (22 * 2 ^ 112) → nat_abs x ≤ 22 * 2 ^ 112 → record { sum : FitsSigned w128 (s +ℤ x); small : nat_abs (s +ℤ x) ≤ (q + 1) * (22 * 2 ^ 112) }
-sizes s x q l h k =
-    let a : nat_abs (s +ℤ x) ≤ nat_abs s + nat_abs x = omega (arith, ints) in
-    record {
-      sum = fits_signed_from_abs w128 (s +ℤ x) (omega arith);
-      small = omega arith;
-    }
-
-pub multiple-sum-requires-clause-sum : goal.multiple-sum-requires-clause-sum
-multiple-sum-requires-clause-sum c =
-    let x : FitsSigned w64 (get_or c.args.sums.now c.loop-q.q (pos 0)) = search rules in
-    simp to_z-of_z (rw (lookup_is c.args.sums.now c.loop-q.q) at (c.requires.small c.loop-q.q))
-
-pub overflow_add-sum : goal.overflow_add-sum
-overflow_add-sum c =
-    let w = c.rows-q-end.ensures.tableau.few_rows in
-    let x : FitsSigned w128 c.multiple-sum.result = search rules in
-    simp to_z-of_z (sizes (to_z w128 c.loop-q.sum-bits) c.multiple-sum.result c.loop-q.q (omega arith) c.loop-q.invariant.small c.multiple-sum.ensures.small).sum
+pub loop-q-init : goal.loop-q-init
+loop-q-init c = sym zero_wraps
 
 pub loop-q-preserved : goal.loop-q-preserved
 loop-q-preserved c =
-    let w = c.rows-q-end.ensures.tableau.few_rows in
-    let e = lookup_is c.args.sums.now c.loop-q.q in
-    let x : FitsSigned w128 c.multiple-sum.result = search rules in
-    let y : FitsSigned w64 (get_or c.args.sums.now c.loop-q.q (pos 0)) = search rules in
-    let n : FitsSigned w128 c.number.result = search rules in
-    let z = sizes (to_z w128 c.loop-q.sum-bits) c.multiple-sum.result c.loop-q.q (omega arith) c.loop-q.invariant.small c.multiple-sum.ensures.small in
-    let r = z.sum in
+    let q = c.loop-q.q in
+    let x = get_or c.args.sums.now q (pos 0) in
+    let y = get_or c.numbers-numbers.result.now q (pos 0) in
+    let fx : FitsSigned w64 x = search rules in
+    let fy : FitsSigned w64 y = search rules in
+    let s = to_z w64 c.loop-q.sum-bits in
     let terms = λ (i : ℕ). lookup c.args.sums.now i *ℤ lookup (column_at c.args.t.now.system c.args.column) i in
-    let v : to_z w128 c.loop-q.sum-bits ≡ sum_below c.loop-q.q terms = c.loop-q.invariant.value in
-    let p : c.multiple-sum.result ≡ terms c.loop-q.q = (simp to_z-of_z at c.multiple-sum.ensures.value) ∙ ap₂ ◌*ℤ◌ (sym e) c.number.ensures.value in
-    record {
-      value = simp to_z-of_z (rw (v, p) (sym (sum_more c.loop-q.q terms)));
-      small = simp to_z-of_z z.small;
-    }
+    let product = wrapping_mul_is w64 x y fx fy in
+    let sum = wrapping_add-bits w64 c.loop-q.sum-bits (of_z w64 x * of_z w64 y % 2 ^ 64) (search rules) (search rules) in
+    let e : x *ℤ y ≡ terms q = ap₂ ◌*ℤ◌ (sym (lookup_is c.args.sums.now q)) (sym (lookup_is c.numbers-numbers.result.now q) ∙ ap (λ (z : List ℤ). lookup z q) c.numbers-numbers.ensures) in
+    sum_step terms q s _ c.loop-q.invariant (sum ∙ ap (λ z. int_wrap w64 (s +ℤ z)) product ∙ int_wrap-add_right w64 s (x *ℤ y) ∙ ap (λ z. int_wrap w64 (s +ℤ z)) e)
 
 pub returns : goal.returns
 returns c =
     let t = c.args.t.now in
     let w = c.rows-q-end.ensures.tableau in
     let j : c.loop-q.q ≡ t.rows = (let v = c.rows-q-end.ensures.value in omega arith) in
-    c.loop-q.invariant.value
-    ∙ ap (λ (n : ℕ). sum_below n (λ (i : ℕ). lookup c.args.sums.now i *ℤ lookup (column_at t.system c.args.column) i)) j
-    ∙ sum_same t.rows (λ (i : ℕ). lookup c.args.sums.now i *ℤ lookup (column_at t.system c.args.column) i) (λ (i : ℕ). gain_of t (units_of t + i) *ℤ lookup (column_at t.system c.args.column) i) (λ q l. ap (λ (x : ℤ). x *ℤ lookup (column_at t.system c.args.column) q) (c.requires.values q l))
-    ∙ sym (gain_law t w c.args.column)
+    let small = unit_sum_small t (λ (row : ℕ). entry_of t row c.args.column) (λ row. w.small row c.args.column) w.few_rows in
+    c.loop-q.invariant
+    ∙ ap (λ (n : ℕ). int_wrap w64 (sum_below n (λ (i : ℕ). lookup c.args.sums.now i *ℤ lookup (column_at t.system c.args.column) i))) j
+    ∙ ap (int_wrap w64) (sum_same t.rows (λ (i : ℕ). lookup c.args.sums.now i *ℤ lookup (column_at t.system c.args.column) i) (λ (i : ℕ). gain_of t (units_of t + i) *ℤ lookup (column_at t.system c.args.column) i) (λ q l. ap (λ (x : ℤ). x *ℤ lookup (column_at t.system c.args.column) q) (c.requires.values q l)) ∙ sym (gain_law t w c.args.column))
+    ∙ int_wrap_fits w64 (gain_of t c.args.column) (fits_signed_from_abs w64 (gain_of t c.args.column) (omega arith))
