@@ -12,7 +12,7 @@ use Rattle.lt_model.specs.Simplices.{AllOfDimension, translate}
 use Rattle.lt_model.proofs.Translates.{without-translate}
 use Rattle.lt_model.proofs.Dependent.{all_without}
 use Rattle.lt_triang.specs.Across.{IsFacing}
-use Rattle.lt_triang.specs.Codes.{coordinate_digits, point_code, point_digits, digits_of, facet_code, bucket_of}
+use Rattle.lt_triang.specs.Codes.{coordinate_digits, point_code, point_digits, digits_of, facet_code, spread, bucket_of}
 
 digits-plus : (h k : ℤ) (x y : List ℤ) → length x ≡ length y → coordinate_digits (h +ℤ k) (plus x y) ≡ coordinate_digits h x +ℤ coordinate_digits k y
 digits-plus h k [] [] l = refl
@@ -45,7 +45,7 @@ pub same_bucket : (d : ℕ) (t : List (List (List ℤ))) (n i m j : ℕ) (p : Li
 same_bucket d t n i m j p all h =
     let e : translate p (without j (get_or t m [])) ≡ without i (get_or t n []) = sym (without-translate p j (get_or t m [])) ∙ h.facet in
     let c : facet_code (without j (get_or t m [])) ≡ facet_code (without i (get_or t n [])) = sym (facet_code-moved d p (without j (get_or t m [])) h.dimension (all_without (λ v. length v ≡ d) j (get_or t m []) all)) ∙ ap facet_code e in
-    ap (λ x. nat_abs x % (4 * length t)) c
+    ap (λ x. spread x % (4 * length t)) c
 
 -- ---- bounds
 

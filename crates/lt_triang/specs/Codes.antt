@@ -1,5 +1,5 @@
 -- Numbers by which facets are found: the same for all translates of a facet.
-use Rattle.std.specs.Prelude.{ℕ, ℤ, pos, ◌+ℤ◌, ◌-ℤ◌, ◌*ℤ◌, ◌%◌, ◌*◌, List, [], ◌∷◌, map, get_or, length, nat_abs}
+use Rattle.std.specs.Prelude.{ℕ, ℤ, pos, ◌+ℤ◌, ◌-ℤ◌, ◌*ℤ◌, ◌%◌, ◌/◌, ◌*◌, ◌^◌, List, [], ◌∷◌, map, get_or, length, nat_abs}
 use Rattle.lt_model.specs.Facets.{without}
 
 -- the numbers as digits to the base 31, after the number h
@@ -26,6 +26,10 @@ code_differences vs = map (λ v. point_code v -ℤ point_code (get_or vs 0 [])) 
 abbrev pub facet_code : List (List ℤ) → ℤ
 facet_code vs = point_digits (pos 0) (code_differences vs)
 
+-- the code multiplied by an odd number, and of 64 bits of the product the upper half
+abbrev pub spread : ℤ → ℕ
+spread x = ((nat_abs x * 0x9E37_79B9_7F4A_7C15) % (2 ^ 64)) / (2 ^ 32)
+
 -- the bucket, of so many, of facet j of the class at place n
 abbrev pub bucket_of : List (List (List ℤ)) → ℕ → ℕ → ℕ
-bucket_of t n j = nat_abs (facet_code (without j (get_or t n []))) % (4 * length t)
+bucket_of t n j = spread (facet_code (without j (get_or t n []))) % (4 * length t)

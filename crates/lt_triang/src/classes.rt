@@ -1,6 +1,6 @@
 //! Classes of simplices under translation.
 
-ghost use Rattle.std.specs.Prelude.{◌≡◌, ◌<◌, ◌≤◌, ◌-◌, ◌*◌, ◌^◌, suc, ℕ, ℤ, pos, negsuc, List, [], length, get_or, IsSome, IfSome, IfOk, IfErr, ◌↔◌};
+ghost use Rattle.std.specs.Prelude.{◌≡◌, ◌<◌, ◌≤◌, ◌-◌, ◌*◌, ◌^◌, suc, ℕ, ℤ, pos, negsuc, List, [], length, get_or, IsSome, IsTrue, IfSome, IfOk, IfErr, ◌↔◌};
 ghost use Rattle.lt_model.specs.Limits.{span_limit, class_span};
 ghost use Rattle.lt_model.specs.Vectors.{scale};
 ghost use Rattle.lt_model.specs.Facets.{without};
@@ -9,7 +9,7 @@ ghost use Rattle.lt_triang.specs.Bounds.{AreWithin, AreNear};
 ghost use Rattle.lt_triang.specs.Flat.{IsFlat, IsClassAt};
 
 use crate::dependencies::flat_terms;
-use crate::spans::span_of;
+use crate::spans::{is_wider, span_of};
 use crate::vertices::{
     columns, copies, first_of, moved_back, moved_by, others, sorted_copies, widened,
 };
@@ -122,6 +122,13 @@ impl Class {
         ensures { result ≡ pos (class_span self.now) }
     {
         i64::from(span_of(self.dimension() as usize, self.vertices()))
+    }
+
+    /// Whether the span is above `limit`: it takes less time than to make the span.
+    pub fn is_wider(&self, limit: u32) -> bool
+        ensures { IsTrue result ↔ limit < class_span self.now }
+    {
+        is_wider(self.dimension() as usize, self.vertices(), limit)
     }
 
     /// The vertices moved by `p`, or None where a coordinate would pass 2^20 in absolute value.

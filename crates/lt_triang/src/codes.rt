@@ -45,6 +45,14 @@ fn other_number(numbers: &[i64], i: usize, k: usize) -> i64
     if k < i { numbers[k] } else { numbers[k + 1] }
 }
 
+/// The code multiplied by an odd number of which many bits are set, less the lower half of 64 bits. Codes are linear in coordinates, so their
+/// remainders would crowd.
+pub fn spread(code: i64) -> u64
+    ensures { result ≡ model.spread code }
+{
+    code.unsigned_abs().wrapping_mul(0x9E37_79B9_7F4A_7C15) >> 32
+}
+
 /// The code of facet `i` of a class of d + 1 vertices with these codes.
 pub fn facet_code(d: usize, codes: &[i64], i: usize) -> i64
     requires low { 2 ≤ d }

@@ -11,7 +11,7 @@ ghost use Rattle.lt_triang.specs.Kept.{AreClasses};
 ghost use Rattle.lt_triang.specs.Walled.{AreRows, IsWallAnswer, IsFirstAnswer, IsAcrossAnswer};
 
 use crate::classes::Class;
-use crate::codes::{facet_code, point_codes};
+use crate::codes::{facet_code, point_codes, spread};
 use crate::neighbours::{Outer, class_at, facing, member};
 use crate::rows::Row;
 use crate::walls::Wall;
@@ -31,7 +31,7 @@ fn bucket_of(d: usize, classes: &[Class], n: usize, codes: &[i64], j: usize) -> 
     ensures value { result ≡ model.bucket_of classes.now n j }
     ensures within { result < 4 * length classes.now }
 {
-    let code = facet_code(d, codes, j).unsigned_abs();
+    let code = spread(facet_code(d, codes, j));
     (code % (4 * classes.len() as u64)) as usize
 }
 

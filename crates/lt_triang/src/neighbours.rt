@@ -147,6 +147,8 @@ pub fn vertex_moved(next: &[Point], j: usize, by: &Point) -> Point
 
 /// The shift by which the class `next` lies across facet `i` of the class `s`, with its vertex `j` outside, and that vertex. `columns` are
 /// those of the class `s`.
+// Not inlined: locals of an inlined function are set to zero as its caller begins, and these are large and rarely needed.
+#[inline(never)]
 pub fn facing(
     d: usize,
     s: &Class,

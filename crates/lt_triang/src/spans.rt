@@ -1,12 +1,12 @@
 //! How far the vertices of classes lie apart.
 
-ghost use Rattle.std.specs.Prelude.{◌≡◌, ◌^◌, ◌*◌, ◌-◌, ◌≤◌, pos, length, map, IsTrue, ◌↔◌};
+ghost use Rattle.std.specs.Prelude.{◌≡◌, ◌^◌, ◌*◌, ◌-◌, ◌<◌, ◌≤◌, pos, length, map, IsTrue, ◌↔◌};
 ghost use Rattle.std.specs.List.{All};
 ghost use Rattle.lt_model.specs.Limits as limits;
 ghost use Rattle.lt_model.specs.Limits.{greatest, gap, class_span};
 ghost use Rattle.lt_model.specs.Simplices.{AllOfDimension};
 ghost use Rattle.lt_lattice.specs.Ranges.{IsWithin};
-ghost use Rattle.lt_triang.specs.Bounds.{AreNear};
+ghost use Rattle.lt_triang.specs.Bounds.{AreWithin, AreNear};
 
 use lt_lattice::Point;
 
@@ -53,6 +53,42 @@ pub fn span_of(d: usize, points: &[Point]) -> u32
         widest = widest.max(farthest(&points[i], points));
     }
     widest
+}
+
+/// Whether every coordinate is at most `bound` in absolute value.
+fn is_small(coords: &[i32], bound: u32) -> bool
+    ensures { IsTrue result ↔ All (IsWithin bound) coords.now }
+{
+    for coord in coords {
+        if coord.unsigned_abs() > bound {
+            return false;
+        }
+    }
+    true
+}
+
+/// Whether every coordinate of every point is at most `bound` in absolute value.
+fn are_small(points: &[Point], bound: u32) -> bool
+    ensures { IsTrue result ↔ AreWithin bound points.now }
+{
+    for point in points {
+        if !is_small(point.coords(), bound) {
+            return false;
+        }
+    }
+    true
+}
+
+/// Whether the greatest gap of two of the points is above `limit`. It isn't where the coordinates are at most the half of it, as those of most
+/// classes are, and then no gap is measured.
+pub fn is_wider(d: usize, points: &[Point], limit: u32) -> bool
+    requires { AllOfDimension d points.now }
+    ensures { IsTrue result ↔ limit < class_span points.now }
+{
+    if are_small(points, limit / 2) {
+        return false;
+    }
+    span_of(d, points) > limit
 }
 
 /// Whether two of the d + 1 points differ by at most twice the span limit in each coordinate.

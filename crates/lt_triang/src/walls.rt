@@ -56,6 +56,8 @@ impl Wall {
     /// The same facet seen from the other side, where this is the wall of facet `facet` of the class at place `class`. One equation tells of
     /// the vertices on both sides, so the numbers change places and nothing is solved. None where no numbers are kept, or something doesn't
     /// fit.
+    // Not inlined: locals of an inlined function are set to zero as its caller begins, and these are large and rarely needed.
+    #[inline(never)]
     pub fn mirrored(&self, class: usize, facet: usize) -> Option<Wall>
         requires { HasPlaces self.now facet }
         ensures { IfSome result (IsMirrored self.now class facet) }
