@@ -1,7 +1,8 @@
 //! Square matrices.
 
-ghost use Rattle.std.specs.Prelude.{◌≡◌, ◌<◌, ◌≤◌, ◌*◌, ◌^◌, ℕ, ℤ, List, [], length, map, get_or, IsTrue, IsSome, IfSome, IsOk, IfOk, ◌↔◌};
+ghost use Rattle.std.specs.Prelude.{◌≡◌, ◌<◌, ◌≤◌, ◌*◌, ◌*ℤ◌, ◌^◌, ℕ, ℤ, nat_abs, List, [], length, map, get_or, IsTrue, IsSome, IfSome, IsOk, IfOk, ◌↔◌};
 ghost use Rattle.std.specs.List.{All};
+ghost use Rattle.lt_model.specs.Vectors.{dot};
 ghost use Rattle.lt_model.specs.Facets.{number_at};
 ghost use Rattle.lt_model.specs.Matrices as matrix;
 ghost use Rattle.lt_model.specs.Flat.{rows, flat};
@@ -221,31 +222,41 @@ pub fn inverse_of(u: &Matrix, v: &Matrix) -> bool
     are_inverse(u.numbers(), v.numbers(), u.dimension())
 }
 
-/// The coordinates as wide numbers.
-fn widened(x: &[i32]) -> ArrayVec<i128, 6>
-    requires { length x.now ≤ 6 }
-    ensures { result.items ≡ x.now }
+/// The product of a matrix number and a coordinate. The number fits into 64 bits, so that it takes one multiplication.
+fn term(number: i128, coordinate: i32) -> i128
+    requires { nat_abs number ≤ 2 ^ 62 }
+    ensures value { result ≡ number *ℤ coordinate }
+    ensures small { nat_abs result ≤ 2 ^ 93 }
 {
-    let mut all: ArrayVec<i128, 6> = ArrayVec::new();
-    for coord in x {
-        all.push(i128::from(*coord));
+    number as i64 as i128 * coordinate as i128
+}
+
+/// A coordinate of the image of x, from a row of the matrix.
+fn image_coordinate(numbers: &[i128], x: &[i32]) -> i128
+    requires same { length numbers.now ≡ length x.now }
+    requires few { length x.now ≤ 6 }
+    requires within { All (IsWithin (2 ^ 62)) numbers.now }
+    ensures { result ≡ dot numbers.now x.now }
+{
+    let mut sum: i128 = 0;
+    for j in 0..x.len() {
+        sum += term(numbers[j], x[j]);
     }
-    all
+    sum
 }
 
 /// The coordinates of the image of x by a matrix of `d` rows.
-fn image(u: &[i128], d: usize, x: &[i128]) -> ArrayVec<i128, 6>
+fn image(u: &[i128], d: usize, x: &[i32]) -> ArrayVec<i128, 6>
     requires few { d ≤ 6 }
     requires count { length u.now ≡ d * d }
     requires same { length x.now ≡ d }
     requires below { All (IsBelow (2 ^ 62)) u.now }
-    requires within { All (IsWithin (2 ^ 20)) x.now }
     ensures value { result.items ≡ matrix.apply (rows d u.now) x.now }
     ensures count { length result.items ≡ d }
 {
     let mut all: ArrayVec<i128, 6> = ArrayVec::new();
     for i in 0..d {
-        all.push(inner_product(row(u, d, i), x));
+        all.push(image_coordinate(row(u, d, i), x));
     }
     all
 }
@@ -256,6 +267,6 @@ pub fn apply(u: &Matrix, x: &Point) -> Option<Point>
     ensures value { IfSome result (λ p. p ≡ matrix.apply (rows (length x.now) u.now) x.now) }
     ensures within { IsSome result ↔ All (IsWithin (2 ^ 20)) (matrix.apply (rows (length x.now) u.now) x.now) }
 {
-    let coords = widened(x.coords());
-    narrowed(image(u.numbers(), coords.len(), coords.as_slice()).as_slice())
+    let coords = x.coords();
+    narrowed(image(u.numbers(), coords.len(), coords).as_slice())
 }

@@ -1,6 +1,5 @@
-mod Multiples
-mod Excesses
 mod Numbered
+mod Excesses
 mod Tested
 mod Near
 mod Positive

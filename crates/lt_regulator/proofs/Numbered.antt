@@ -1,6 +1,7 @@
 -- The numbers of an excess at pairs of coordinates, and the signs of its multiples.
-use Rattle.std.proofs.Common.{◌≡◌, ℕ, zero, suc, ℤ, pos, negsuc, ◌*ℤ◌, ◌-ℤ◌, ◌+ℤ◌, ◌<◌, ◌+◌, refl, ap, ap₂, arith, sym, ◌∙◌, List, [], ◌∷◌, ◌++◌, length, map, drop, get_or, drop-cons, add-one}
+use Rattle.std.proofs.Common.{◌≡◌, ℕ, zero, suc, ℤ, pos, negsuc, ◌*ℤ◌, ◌-ℤ◌, ◌+ℤ◌, ◌<◌, ◌≤◌, ◌+◌, refl, ap, ap₂, arith, sym, ◌∙◌, List, [], ◌∷◌, ◌++◌, length, map, drop, get_or, drop-cons, add-one}
 use Rattle.std.proofs.lemmas.Int.{ints}
+use Rattle.std.proofs.lemmas.List.{drop_all, length-drop}
 use Rattle.lt_model.specs.Vectors.{dot, scale, combine, zeros}
 use Rattle.lt_model.specs.Forms.{squares, numbers_of_form}
 use Rattle.lt_model.specs.Facets.{number_at}
@@ -65,6 +66,25 @@ row_at d i j k x h l p = h x l ∙ opened (omega (arith, l, p))
   where
     opened : j < length x → scale (number_at i x) (drop j x) ++ squares (drop (i + 1) x) ≡ product_at i j x ∷ (scale (number_at i x) (drop (j + 1) x) ++ squares (drop (i + 1) x))
     opened q = rw (add-one j, drop-cons x j (pos 0)) refl
+
+-- the first pair of a row
+pub row_start : (d i k : ℕ) → IsRowAt d i k → i < d → IsPlaceAt d i i k
+row_start d i k h p x l = h x l ∙ opened (omega (arith, l, p))
+  where
+    opened : i < length x → squares (drop i x) ≡ scale (number_at i x) (drop i x) ++ squares (drop (i + 1) x)
+    opened q = rw (add-one i, drop-cons x i (pos 0)) refl
+
+-- behind the last pair of a row the next row begins
+pub row_end : (d i j k : ℕ) → IsPlaceAt d i j k → d ≤ j → IsRowAt d (i + 1) k
+row_end d i j k h p x l = h x l ∙ ap (λ (y : List ℤ). scale (number_at i x) y ++ squares (drop (i + 1) x)) (drop_all j x (omega (arith, l, p)))
+
+-- behind the last row there are no more places
+pub rows_below : (d i k : ℕ) → IsRowAt d i k → d ≤ i → numbers_of_form d ≤ k
+rows_below d i k h p =
+    let x : List ℤ = zeros d in
+    let l : length x ≡ d = length-zeros d in
+    let none : drop k (squares x) ≡ [] = h x l ∙ ap squares (drop_all i x (omega (arith, l, p))) in
+    omega (arith, ap length none, length-drop k (squares x), length-squares x, ap numbers_of_form l)
 
 -- the place of the next pair
 pub place_more : (d i j k : ℕ) → IsPlaceAt d i j k → j < d → IsPlaceAt d i (j + 1) (k + 1)

@@ -10,8 +10,7 @@ ghost use Rattle.lt_triang.specs.Kept.{dimension_of, IsOfSomeForm};
 ghost use Rattle.lt_geometry.specs.Regulators.{IsRegulatorAt};
 ghost use Rattle.lt_regulator.specs.Regulated.{IsOuterExcess, HasRegulatorsBelow};
 
-use crate::excess::excess_of;
-use crate::signs::signs_agree;
+use crate::excess::{excess_of, signs_agree};
 use arrayvec::ArrayVec;
 use lt_lattice::Normal;
 use lt_model::Memory;
@@ -21,6 +20,7 @@ use std::alloc::Global;
 
 /// The numbers of the excess of the outer vertex at the facet, as a function of the form.
 fn outer_excess(t: &Triangulation, class: usize, facet: usize) -> ArrayVec<i128, 21>
+    requires delaunay { IsOfSomeForm t.now }
     requires class { class < length t.now }
     requires facet { facet < length (get_or t.now class []) }
     ensures value { IsOuterExcess (dimension_of t.now) t.now (get_or t.now class []) facet result.items }
@@ -28,13 +28,9 @@ fn outer_excess(t: &Triangulation, class: usize, facet: usize) -> ArrayVec<i128,
 {
     let dimension = usize::from(t.dimension());
     let simplex = t.class(class);
-    let outer = t.outer(class, facet);
-    excess_of(
-        dimension,
-        simplex.vertices(),
-        &outer.vertex,
-        &outer.expression,
-    )
+    let vertex = t.outer_vertex(class, facet);
+    let numbers = t.outer_numbers(class, facet);
+    excess_of(dimension, simplex.vertices(), &vertex, numbers.as_slice())
 }
 
 /// The regulator of the class at place `class` and its neighbour at facet `facet`: `d (d + 1) / 2` numbers in the order of a

@@ -3,6 +3,5 @@
 
 mod excess;
 mod facets;
-mod signs;
 
 pub use facets::{has_regulator, regulator, regulators};

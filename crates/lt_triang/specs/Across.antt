@@ -1,7 +1,8 @@
 -- Members that lie across a facet of a member: the first of them, and facets that have none.
-use Rattle.std.specs.Prelude.{ℕ, suc, ℤ, ◌<◌, ◌≤◌, ◌≡◌, ◌↔◌, List, [], ◌∷◌, length, get_or}
+use Rattle.std.specs.Prelude.{ℕ, suc, ℤ, ◌<◌, ◌≤◌, ◌^◌, ◌≡◌, ◌↔◌, List, [], ◌∷◌, length, get_or}
 use Rattle.std.specs.List.{Contains}
 use Rattle.std.specs.List.Sorted.{IsStrictlySortedBy}
+use Rattle.lt_model.specs.Cones.{AreBelow}
 use Rattle.lt_model.specs.Order.{simplex_cmp}
 use Rattle.lt_model.specs.Simplices.{AllOfDimension, IsExpression, translate}
 use Rattle.lt_model.specs.Vectors.{IsPrimitive}
@@ -73,7 +74,8 @@ pub record IsOuterVertex (d : ℕ) (t : List (List (List ℤ))) (s : List (List 
   pub neighbour : IsNeighbour d t s i next shift outer
   pub vertex : w ≡ get_or (translate shift next) outer []
 
--- the numbers of the expression of that vertex over s in lowest terms: the scale, then the coefficients
+-- the numbers of the expression of that vertex over s in lowest terms, below 2^59 in absolute value: the scale, then
+-- the coefficients
 pub record AreOuterNumbers (d : ℕ) (t : List (List (List ℤ))) (s : List (List ℤ)) (i : ℕ) (numbers : List ℤ) : Type 0 where
   pub vertex : List ℤ
   pub scale : ℤ
@@ -81,4 +83,5 @@ pub record AreOuterNumbers (d : ℕ) (t : List (List (List ℤ))) (s : List (Lis
   pub outer : IsOuterVertex d t s i vertex
   pub expression : IsExpression s vertex scale coefficients
   pub primitive : IsPrimitive (scale ∷ coefficients)
+  pub below : AreBelow (2 ^ 59) (scale ∷ coefficients)
   pub is : numbers ≡ scale ∷ coefficients

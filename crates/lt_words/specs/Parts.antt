@@ -1,8 +1,8 @@
 -- The words of a command one by one.
-use Rattle.std.specs.Prelude.{◌≡◌, ◌⊎◌, ℕ, ℤ, ◌+◌, ◌<◌, ◌≤◌, List, [], ◌++◌, length, map, get_or, codes}
+use Rattle.std.specs.Prelude.{◌≡◌, ◌⊎◌, ℕ, ℤ, ◌+◌, ◌<◌, List, [], ◌++◌, length, map, get_or, codes}
 use Rattle.std.specs.Fmt.{decimal, signed_decimal}
 use Rattle.std.specs.List.{All}
-use Rattle.lt_lattice.specs.Ranges as ranges
+use Rattle.lt_lattice.specs.Ranges.{IsWithin}
 use Rattle.lt_words.specs.declared.words.Kind.{Kind}
 use Rattle.lt_words.specs.declared.words.Kind.TheVariants as kind
 use Rattle.lt_words.specs.declared.options.Part.{Part}
@@ -48,14 +48,10 @@ HasWords ws place vs = (i : ℕ) → i < length vs → HasWord ws (place + i) (g
 pub record IsCut (ws : List (List ℕ)) (start count most place : ℕ) : Type 0 where
   pub numbers : List ℤ
   pub few : length numbers < count
-  pub within : All (ranges.IsWithin most) numbers
+  pub within : All (IsWithin most) numbers
   pub words : HasWords ws start (map signed_decimal numbers)
   pub at : place ≡ start + length numbers
-  pub none : (z : ℤ) → ranges.IsWithin most z → HasWord ws place (signed_decimal z) → ⊥
-
--- a number from low to high
-abbrev pub IsWithin : ℕ → ℕ → ℕ → Type 0
-IsWithin low high n = (low ≤ n) × (n ≤ high)
+  pub none : (z : ℤ) → IsWithin most z → HasWord ws place (signed_decimal z) → ⊥
 
 -- ---- parts
 

@@ -2,8 +2,8 @@
 
 ghost use Rattle.std.specs.Prelude.{◌≡◌, ◌≢◌, ℕ, length, get_or, IsTrue, ◌↔◌, IfSome, IfNone};
 ghost use Rattle.std.specs.Fmt.{decimal};
+ghost use Rattle.lt_scan.specs.Reading.{IsWithin};
 ghost use Rattle.lt_words.specs.Grammar.{IsDimension};
-ghost use Rattle.lt_words.specs.Parts.{IsWithin};
 
 use crate::limits::{HIGHEST, LOWEST};
 

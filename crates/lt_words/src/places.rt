@@ -2,8 +2,9 @@
 
 ghost use Rattle.std.specs.Prelude.{◌≡◌, ◌<◌, ◌≤◌, ◌^◌, ℕ, ℤ, length, nat_abs, IsTrue, ◌↔◌, IfOk, IfErr, OnOk};
 ghost use Rattle.std.specs.Fmt.{decimal, signed_decimal};
+ghost use Rattle.lt_scan.specs.Reading.{IsWithin};
 ghost use Rattle.lt_words.specs.Grammar.{texts, IsDimension};
-ghost use Rattle.lt_words.specs.Parts.{HasWord, IsWithin};
+ghost use Rattle.lt_words.specs.Parts.{HasWord};
 
 use crate::limits::{HIGHEST, LOWEST};
 use crate::numbers::number_of;

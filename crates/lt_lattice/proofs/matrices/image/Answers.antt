@@ -1,4 +1,4 @@
-use Rattle.std.proofs.Common.{rules, arith, sym, ◌∙◌, ap, ◌<◌, ◌≤◌, ◌*◌, ◌^◌, pos, length, get_or, List, [], ℤ, refl}
+use Rattle.std.proofs.Common.{rules, arith, sym, ◌∙◌, ap, ◌<◌, ◌^◌, pos, length, get_or, [], refl}
 use Rattle.std.proofs.lemmas.Int.{to_z-of_z}
 use mir.Val.{SFits}
 use mir.Syntax.{w128}
@@ -7,23 +7,16 @@ use Rattle.lt_model.specs.Flat.{rows}
 use Rattle.lt_model.specs.Matrices.{apply}
 use Rattle.lt_model.proofs.Flat.{length-first_rows}
 use Rattle.lt_model.proofs.Points.{length-apply}
-use Rattle.lt_lattice.specs.Ranges.{size_of_dot}
-use Rattle.lt_lattice.proofs.Dots.{size_within}
 use Rattle.lt_lattice.proofs.Places.{row_within, length_row, get-apply}
 use Rattle.lt_lattice.proofs.matrices.image.Goals as goal
 
-pub inner_product-requires-clause-same : goal.inner_product-requires-clause-same
-inner_product-requires-clause-same c =
+pub image_coordinate-requires-clause-same : goal.image_coordinate-requires-clause-same
+image_coordinate-requires-clause-same c =
     rw c.row.ensures (length_row c.args.d c.loop-i.i c.args.u.now c.requires.count c.loop-i-test.true ∙ sym c.requires.same)
 
-pub inner_product-requires-clause-small : goal.inner_product-requires-clause-small
-inner_product-requires-clause-small c =
-    let d = c.args.d in
-    let r : List ℤ = get_or (rows d c.args.u.now) c.loop-i.i [] in
-    let size : size_of_dot r c.args.x.now ≤ length r * (2 ^ 62 * 2 ^ 20) =
-    size_within (2 ^ 62) (2 ^ 20) r c.args.x.now (row_within (2 ^ 62) d c.loop-i.i c.args.u.now c.requires.count c.loop-i-test.true c.requires.below) c.requires.within in
-    let few : length r ≤ 6 = omega (arith, length_row d c.loop-i.i c.args.u.now c.requires.count c.loop-i-test.true, c.requires.few) in
-    rw c.row.ensures (omega (arith, size, few))
+pub image_coordinate-requires-clause-within : goal.image_coordinate-requires-clause-within
+image_coordinate-requires-clause-within c =
+    rw c.row.ensures (row_within (2 ^ 62) c.args.d c.loop-i.i c.args.u.now c.requires.count c.loop-i-test.true c.requires.below)
 
 pub loop-i-preserved : goal.loop-i-preserved
 loop-i-preserved c =
@@ -32,8 +25,8 @@ loop-i-preserved c =
     let i = c.loop-i.i in
     let few : i < length u = omega (arith, length-first_rows d d c.args.u.now, c.loop-i-test.true) in
     let all : i < length (apply u c.args.x.now) = omega (arith, few, length-apply u c.args.x.now) in
-    let fits : SFits w128 c.inner_product.result = search rules in
-    rw (take_more (apply u c.args.x.now) i (pos 0) all, get-apply i u c.args.x.now few, c.push.ensures.items, c.loop-i.invariant, to_z-of_z w128 _ fits, c.inner_product.ensures, c.row.ensures) refl
+    let fits : SFits w128 c.image_coordinate.result = search rules in
+    rw (take_more (apply u c.args.x.now) i (pos 0) all, get-apply i u c.args.x.now few, c.push.ensures.items, c.loop-i.invariant, to_z-of_z w128 _ fits, c.image_coordinate.ensures, c.row.ensures) refl
 
 pub returns-clause-value : goal.returns-clause-value
 returns-clause-value c =

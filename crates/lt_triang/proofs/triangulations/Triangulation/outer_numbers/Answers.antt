@@ -25,5 +25,6 @@ returns c =
       outer = subst (λ (n : ℕ). IsOuterVertex n t s c.args.facet (vertex_to s c.args.facet next w.vertex)) e o.vertex;
       expression = k.outer.expression;
       primitive = k.outer.primitive;
+      below = k.outer.below;
       is = c.widened-numbers.ensures ∙ kept_some (k.scale ∷ k.coefficients) w.numbers.items k.numbers (λ none. false≢true (sym c.if-is_empty.false ∙ c.is_empty.ensures ∙ ap (λ (n : ℕ). n == 0) (ap length (c.widened-numbers.ensures ∙ none))));
     }

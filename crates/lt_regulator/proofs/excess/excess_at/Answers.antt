@@ -5,7 +5,7 @@ use mir.Val.{SFits, to_z}
 use Rattle.lt_regulator.specs.Signed.{product_at}
 use Rattle.lt_regulator.proofs.Excesses.{any_default}
 use Rattle.lt_regulator.proofs.Numbered.{left_more}
-use Rattle.lt_regulator.proofs.signs.excess_at.Goals as goal
+use Rattle.lt_regulator.proofs.excess.excess_at.Goals as goal
 
 fits_64 : (x : ℤ) → nat_abs x ≤ 2 ^ 40 → SFits w64 x
 fits_64 x h = omega (arith, ints)

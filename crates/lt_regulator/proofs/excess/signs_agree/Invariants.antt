@@ -1,5 +1,5 @@
 use Rattle.lt_regulator.proofs.Numbered.{IsRowAt, IsPlaceAt}
-use Rattle.lt_regulator.proofs.signs.signs_agree.Given as goal
+use Rattle.lt_regulator.proofs.excess.signs_agree.Given as goal
 
 abbrev pub invariant-loop-i : goal.invariant-loop-i
 invariant-loop-i l = IsRowAt l.d l.i l.k

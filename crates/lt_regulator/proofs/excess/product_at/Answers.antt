@@ -3,7 +3,7 @@ use Rattle.std.proofs.lemmas.Int.{ints, to_z-of_z, fits_signed_mul}
 use Rattle.lt_lattice.proofs.Dots.{product_within}
 use mir.Syntax.{w64}
 use mir.Val.{SFits, of_z, to_z}
-use Rattle.lt_regulator.proofs.signs.product_at.Goals as goal
+use Rattle.lt_regulator.proofs.excess.product_at.Goals as goal
 
 fits : (x : ℤ) → nat_abs x ≤ 2 ^ 20 → SFits w64 x
 fits x h = omega (arith, ints)

@@ -1,6 +1,6 @@
 use Rattle.std.proofs.Common.{◌≡◌, ◌≤◌, ◌+◌, ◌*◌, ◌^◌, ℤ, List, ◌∷◌, nat_abs}
 use Rattle.lt_regulator.proofs.Numbered.{IsLeft}
-use Rattle.lt_regulator.proofs.signs.excess_at.Given as goal
+use Rattle.lt_regulator.proofs.excess.excess_at.Given as goal
 
 abbrev pub invariant-loop-m : goal.invariant-loop-m
 invariant-loop-m l = record {

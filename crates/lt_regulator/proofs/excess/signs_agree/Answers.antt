@@ -5,7 +5,7 @@ use Rattle.lt_model.specs.Forms.{numbers_of_form}
 use Rattle.lt_lattice.proofs.Lengths.{at_most_21}
 use Rattle.lt_regulator.specs.Signed.{excess_at}
 use Rattle.lt_regulator.proofs.Numbered.{place_below, place_more, no_multiple}
-use Rattle.lt_regulator.proofs.signs.signs_agree.Goals as goal
+use Rattle.lt_regulator.proofs.excess.signs_agree.Goals as goal
 
 room : (d k : ℕ) → d ≤ 6 → k < numbers_of_form d → k < 21
 room d k h p = let e : numbers_of_form d ≤ 21 = at_most_21 d h in omega (arith, e, p)
