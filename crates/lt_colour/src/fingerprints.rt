@@ -7,52 +7,12 @@ ghost use Rattle.lt_model.specs.Order.{number_list_cmp};
 ghost use Rattle.lt_triang.specs.Kept.{dimension_of, IsOfSomeForm};
 ghost use Rattle.lt_colour.specs.Signatures.{AreClassSignatures, IsFingerprint, FingerprintsAreInvariant};
 
-use crate::signatures::{short_class_signature, signature};
+use crate::signatures::short_class_signature;
 use arrayvec::ArrayVec;
 use lt_model::Memory;
 use lt_triang::Triangulation;
 use std::alloc::Global;
 use std::marker::Model;
-
-/// The signature of a class.
-#[derive(Drop, PartialEq, Eq, PartialOrd, Ord)]
-pub struct ClassSignature {
-    numbers: ArrayVec<i128, 56>,
-}
-
-impl Model for ClassSignature {
-    ghost use Rattle.std.specs.Prelude.{List, ℤ};
-
-    ghost Value = { List ℤ };
-
-    ghost view = { λ s. s.numbers.items };
-
-    ghost inverse = { λ x. record { numbers = record { items = x } } };
-}
-
-impl ClassSignature {
-    /// The numbers.
-    pub fn numbers(&self) -> &[i128]
-        ensures value { result.now ≡ self.now }
-        ensures few { length result.now ≤ 56 }
-    {
-        self.numbers.as_slice()
-    }
-}
-
-/// The signatures of the classes, in the order of classes. The triangulation is the Delaunay triangulation of some form. Memory where
-/// memory was refused.
-pub fn class_signatures(alloc: Global, t: &Triangulation) -> Result<Vec<ClassSignature>, Memory>
-    requires { IsOfSomeForm t.now }
-    ensures { IfOk result (λ all. AreClassSignatures (dimension_of t.now) t.now all.items) }
-{
-    let mut all = Vec::with_capacity(alloc, t.len())?;
-    for class in 0..t.len() {
-        let numbers = signature(t, class);
-        all.push(ClassSignature { numbers })?;
-    }
-    Ok(all)
-}
 
 /// The signature of a class in 64 bits, which is compared and moved faster.
 #[derive(Drop, PartialEq, Eq, PartialOrd, Ord)]

@@ -5,6 +5,6 @@ mod fingerprints;
 mod pairs;
 mod signatures;
 
-pub use fingerprints::{ClassSignature, class_signatures, fingerprint, fingerprints_are_invariant};
+pub use fingerprints::{fingerprint, fingerprints_are_invariant};
 pub use pairs::PairSignature;
-pub use signatures::{pair_signatures, signature, signatures_are_invariant};
+pub use signatures::{pair_signatures, short_class_signature, signature, signatures_are_invariant};

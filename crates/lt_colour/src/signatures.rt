@@ -77,7 +77,8 @@ fn widened(numbers: &[i64]) -> ArrayVec<i128, 56>
     all
 }
 
-/// The signature of the class at place `class`, in 64 bits.
+/// The signature of the class at place `class` in 64 bits, which is compared and moved faster: the signatures of the pairs at its facets in
+/// ascending order, one after the other. Each has d + 2 numbers.
 pub fn short_class_signature(t: &Triangulation, class: usize) -> ArrayVec<i64, 56>
     requires class { class < length t.now }
     ensures { IsClassSignature (dimension_of t.now) t.now (get_or t.now class []) result.items }

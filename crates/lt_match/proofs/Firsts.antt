@@ -1,42 +1,19 @@
--- The first match of all members, from those of the places.
-use Rattle.std.proofs.Common.{◌≡◌, ◌<◌, ◌*◌, ◌⊎◌, ℕ, ℤ, ap, arith, sym, ◌∙◌, subst, List, [], length, get_or, inl, inr}
+-- What a search through all members tells of two triangulations.
+use Rattle.std.proofs.Common.{◌≡◌, ◌<◌, ◌*◌, ℕ, ℤ, sym, ◌∙◌, subst, List, [], length, get_or}
 use Rattle.std.specs.Prelude.{Option, Some, None, IfSome, MatchOption}
 use Rattle.std.specs.List.{Contains}
-use Rattle.std.proofs.lemmas.Bool.{cases_lt}
 use Rattle.std.proofs.lemmas.List.{get_or_default}
 use Rattle.lt_model.specs.Flat.{rows}
 use Rattle.lt_model.specs.Matrices.{AreEquivalent}
 use Rattle.lt_geometry.specs.Carrying.{IsFromAnOrder}
 use Rattle.lt_geometry.proofs.Candidates.{carries_is_candidate}
 use Rattle.lt_triang.specs.Kept.{IsTriangulation, dimension_of}
-use Rattle.lt_match.specs.Matches.{HasNoMatch, IsMatch, IsFirstOrder, IsFirstMatch, ArePlaces}
+use Rattle.lt_match.specs.Matches.{HasNoMatch, IsMatch, IsFirstMatch}
 use Rattle.lt_match.proofs.Tested.{dimension_is, first_member}
 
 module _ (d : ℕ) (t t2 : List (List (List ℤ))) where
   abbrev pub HasNone : ℕ → Type 0
   HasNone n = (q : List ℕ) → HasNoMatch d t t2 (get_or t2 n []) q
-
-  pub first_found : (places : List ℕ) (i : ℕ) (u : List (List ℤ)) → ArePlaces d t t2 places → i < length places → ((j : ℕ) → j < i → HasNone (get_or places j 0)) → IsFirstOrder d t t2 (get_or t2 (get_or places i 0) []) [] u → IsFirstMatch d t t2 u
-  first_found places i u h hi none f = record { member = get_or places i 0; within = h.within i hi; first = f; earlier = λ n l. at n l (h.all n (omega (arith, l, h.within i hi))) }
-    where
-      at : (n : ℕ) → n < get_or places i 0 → Contains places n ⊎ HasNone n → HasNone n
-      at n l (inr no_match) = no_match
-      at n l (inl (j, p, e)) =
-          let is : get_or places j 0 ≡ n = get_or_default places j 0 n p ∙ e in
-          elim (cases_lt j i) [
-            | inl before ↦ subst HasNone is (none j before)
-            | inr g ↦ elim (cases_lt i j) [
-              | inl after ↦ absurd (omega (arith, h.ascending i j after p, is, l))
-              | inr g' ↦ let same : j ≡ i = omega (arith, g, g') in absurd (omega (arith, ap (λ k. get_or places k 0) same, is, l))
-            ]
-          ]
-
-  pub none_found : (places : List ℕ) → ArePlaces d t t2 places → ((j : ℕ) → j < length places → HasNone (get_or places j 0)) → (n : ℕ) → n < length t2 → HasNone n
-  none_found places h none n l = at (h.all n l)
-    where
-      at : Contains places n ⊎ HasNone n → HasNone n
-      at (inr no_match) = no_match
-      at (inl (j, p, e)) = subst HasNone (get_or_default places j 0 n p ∙ e) (none j p)
 
   -- what carries is a match of some member
   pub none_equivalent : IsTriangulation d t → ((n : ℕ) → n < length t2 → HasNone n) → AreEquivalent d t t2 → ⊥

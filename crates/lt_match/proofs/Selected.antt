@@ -1,8 +1,7 @@
 -- Members with the signature of the first class of a triangulation: the others have no match.
-use Rattle.std.proofs.Common.{◌≡◌, ◌≢◌, suc, ap, ◌<◌, ◌+◌, ◌⊎◌, ℕ, ℤ, arith, sym, ◌∙◌, subst, List, [], ◌∷◌, ◌++◌, length, get_or, inl, inr}
+use Rattle.std.proofs.Common.{◌≡◌, ◌≢◌, suc, ap, ◌<◌, ℕ, ℤ, arith, sym, ◌∙◌, subst, List, [], length, get_or}
 use Rattle.std.specs.List.{Contains}
-use Rattle.std.proofs.lemmas.Bool.{cases_lt}
-use Rattle.std.proofs.lemmas.List.{get_or_append_left, get_or_push, get_or_default, length-append}
+use Rattle.std.proofs.lemmas.List.{get_or_default}
 use Rattle.std.proofs.lemmas.List.Elements.{Contains-get_or}
 use Rattle.lt_model.specs.Triangulations.{IsDelaunay}
 use Rattle.lt_geometry.proofs.Candidates.{candidate_class, below}
@@ -18,7 +17,7 @@ use Rattle.lt_triang.specs.Kept.{IsTriangulation, IsOfSomeForm, dimension_of}
 use Rattle.lt_colour.specs.Signatures.{IsClassSignature}
 use Rattle.lt_colour.proofs.OneSignature.{same_signature}
 use Rattle.lt_match.specs.Beyond.{AreFacetSignatures}
-use Rattle.lt_match.specs.Matches.{ArePlaces, AreSigned, HasNoMatch}
+use Rattle.lt_match.specs.Matches.{AreSigned, HasNoMatch}
 use Rattle.lt_match.proofs.Attempts.{first_class}
 use Rattle.lt_match.proofs.Beyond.{facet_signature_carried, one_facet_signature}
 use Rattle.lt_match.proofs.Firsts.{HasNone}
@@ -116,69 +115,3 @@ are_signed d t t2 n ps qs h h2 f f2 l g g2 = record { count = sig.count; count_t
       let goes = vertex_goes d s0 s p u c2 k.candidate i hi lj l0 in
       let there = facet_signature_carried d u t t2 s0 s i (get_or ps i []) h.classes k.carries carried hi (sig.each i hi) j hj goes in
       differ (one_facet_signature d f2.0 t2 s j (get_or ps i []) (get_or qs j []) own2 m hj there (sig2.each j hj))
-
-module _ (d : ℕ) (t t2 : List (List (List ℤ))) where
-  -- places below n in ascending order; what else lies below n has no match
-  pub record ArePlacesBelow (n : ℕ) (places : List ℕ) : Type 0 where
-    pub below : (i : ℕ) → i < length places → get_or places i 0 < n
-    pub ascending : (i j : ℕ) → i < j → j < length places → get_or places i 0 < get_or places j 0
-    pub all : (k : ℕ) → k < n → Contains places k ⊎ HasNone d t t2 k
-
-  pub place_passed : (n : ℕ) (places : List ℕ) → ArePlacesBelow n places → HasNone d t t2 n → ArePlacesBelow (n + 1) places
-  place_passed n places h none = record {
-    below = λ i l. (let e = h.below i l in omega (arith, e));
-    ascending = h.ascending;
-    all = λ k l. elim (cases_lt k n) [
-      | inl before ↦ h.all k before
-      | inr g ↦ let e : n ≡ k = omega arith in inr (subst (HasNone d t t2) e none)
-    ];
-  }
-
-  pub place_taken : (n : ℕ) (places : List ℕ) → ArePlacesBelow n places → ArePlacesBelow (n + 1) (places ++ n ∷ [])
-  place_taken n places h = record { below = below; ascending = ascending; all = all }
-    where
-      more : List ℕ
-      more = places ++ n ∷ []
-
-      long : length (places ++ n ∷ []) ≡ length places + 1
-      long = length-append places (n ∷ [])
-
-      old : (i : ℕ) → i < length places → get_or (places ++ n ∷ []) i 0 ≡ get_or places i 0
-      old i l = get_or_append_left places (n ∷ []) 0 i l
-
-      last : get_or (places ++ n ∷ []) (length places) 0 ≡ n
-      last = get_or_push places n 0 (length places) (omega arith)
-
-      at_last : (i : ℕ) → length places ≡ i → get_or (places ++ n ∷ []) i 0 ≡ n
-      at_last i e = get_or_push places n 0 i e
-
-      below : (i : ℕ) → i < length (places ++ n ∷ []) → get_or (places ++ n ∷ []) i 0 < n + 1
-      below i l = elim (cases_lt i (length places)) [
-        | inl before ↦ let e = old i before in let b = h.below i before in omega (arith, e, b)
-        | inr g ↦ let e = at_last i (omega (arith, g, l, long)) in omega (arith, e)
-      ]
-
-      ascending : (i j : ℕ) → i < j → j < length (places ++ n ∷ []) → get_or (places ++ n ∷ []) i 0 < get_or (places ++ n ∷ []) j 0
-      ascending i j e l =
-          let first : i < length places = omega (arith, e, l, long) in
-          let is = old i first in
-          elim (cases_lt j (length places)) [
-            | inl before ↦ let f = old j before in let b = h.ascending i j e before in omega (arith, is, f, b)
-            | inr g ↦ let f = at_last j (omega (arith, g, l, long)) in let b = h.below i first in omega (arith, is, f, b)
-          ]
-
-      kept : (k : ℕ) → Contains places k → Contains (places ++ n ∷ []) k
-      kept k (i, l, e) = (i, omega (arith, l, long), get_or_append_left places (n ∷ []) k i l ∙ e)
-
-      all : (k : ℕ) → k < n + 1 → Contains (places ++ n ∷ []) k ⊎ HasNone d t t2 k
-      all k l = elim (cases_lt k n) [
-        | inl before ↦ elim (h.all k before) [ inl c ↦ inl (kept k c) | inr none ↦ inr none ]
-        | inr g ↦ let e : n ≡ k = omega arith in inl (length places, omega (arith, long), get_or_push places n k (length places) (omega arith) ∙ e)
-      ]
-
-  pub all_places : (n : ℕ) (places : List ℕ) → n ≡ length t2 → ArePlacesBelow n places → ArePlaces d t t2 places
-  all_places n places e h = record {
-    within = λ i l. (let b = h.below i l in omega (arith, b, e));
-    ascending = h.ascending;
-    all = λ k l. h.all k (omega (arith, l, e));
-  }

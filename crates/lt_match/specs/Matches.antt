@@ -1,6 +1,5 @@
 -- Candidate matrices in their order: first by the member of the second triangulation, then by the order of its vertices.
-use Rattle.std.specs.Prelude.{ℕ, suc, ℤ, ◌<◌, ◌≤◌, ◌≡◌, ◌≢◌, ◌⊎◌, List, [], map, length, get_or}
-use Rattle.std.specs.List.{Contains}
+use Rattle.std.specs.Prelude.{ℕ, suc, ℤ, ◌<◌, ◌≤◌, ◌≡◌, ◌≢◌, List, [], map, length, get_or}
 use Rattle.lt_model.specs.Vectors.{minus}
 use Rattle.lt_model.specs.Matrices.{Carries}
 use Rattle.lt_model.specs.Principal.{IsOrder}
@@ -41,12 +40,6 @@ pub record IsFirstMatch (d : ℕ) (t t2 : List (List (List ℤ))) (u : List (Lis
   pub within : member < length t2
   pub first : IsFirstOrder d t t2 (get_or t2 member []) [] u
   pub earlier : (n : ℕ) → n < member → (q : List ℕ) → HasNoMatch d t t2 (get_or t2 n []) q
-
--- places of members in ascending order; what isn't among them has no match
-pub record ArePlaces (d : ℕ) (t t2 : List (List (List ℤ))) (places : List ℕ) : Type 0 where
-  pub within : (i : ℕ) → i < length places → get_or places i 0 < length t2
-  pub ascending : (i j : ℕ) → i < j → j < length places → get_or places i 0 < get_or places j 0
-  pub all : (n : ℕ) → n < length t2 → Contains places n ⊎ ((q : List ℕ) → HasNoMatch d t t2 (get_or t2 n []) q)
 
 -- where an order takes a vertex of the first class of t to one of s, and the facets opposite to them have other signatures ps and qs, the
 -- order has no match

@@ -2,11 +2,10 @@
 
 ghost use Rattle.std.specs.Prelude.{◌≡◌, ◌<◌, ◌≤◌, ◌+◌, ◌++◌, [], length, get_or};
 ghost use Rattle.lt_triang.specs.Kept.{dimension_of, IsOfSomeForm};
-ghost use Rattle.lt_colour.specs.Signatures.{AreClassSignatures};
 ghost use Rattle.lt_match.specs.Beyond.{AreFacetSignatures};
 
 use arrayvec::ArrayVec;
-use lt_colour::{ClassSignature, PairSignature, pair_signatures, signature};
+use lt_colour::{PairSignature, pair_signatures, signature};
 use lt_triang::Triangulation;
 use std::marker::Model;
 
@@ -58,28 +57,8 @@ fn joined(pair: &PairSignature, beyond: &[i128]) -> FacetSignature
     FacetSignature { numbers }
 }
 
-/// The signatures of the facets of the class at place `class`, in their order, where `classes` are the signatures of all classes.
-pub fn facet_signatures(
-    t: &Triangulation,
-    classes: &[ClassSignature],
-    class: usize,
-) -> ArrayVec<FacetSignature, 7>
-    requires class { class < length t.now }
-    requires signatures { AreClassSignatures (dimension_of t.now) t.now classes.now }
-    ensures { AreFacetSignatures (dimension_of t.now) t.now (get_or t.now class []) result.items }
-{
-    let pairs = pair_signatures(t, class);
-    let mut all: ArrayVec<FacetSignature, 7> = ArrayVec::new();
-    for facet in 0..usize::from(t.dimension()) + 1 {
-        let neighbour = t.neighbour(class, facet);
-        all.push(joined(&pairs[facet], classes[neighbour.class].numbers()));
-    }
-    all
-}
-
-/// The same without the signatures of all classes: those of the neighbours alone are made. The triangulation is the Delaunay
-/// triangulation of some form.
-pub fn near_signatures(t: &Triangulation, class: usize) -> ArrayVec<FacetSignature, 7>
+/// The signatures of the facets of the class at place `class`, in their order. The triangulation is the Delaunay triangulation of some form.
+pub fn facet_signatures(t: &Triangulation, class: usize) -> ArrayVec<FacetSignature, 7>
     requires delaunay { IsOfSomeForm t.now }
     requires class { class < length t.now }
     ensures { AreFacetSignatures (dimension_of t.now) t.now (get_or t.now class []) result.items }

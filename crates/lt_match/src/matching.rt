@@ -1,6 +1,6 @@
 //! The first matrix that carries one triangulation onto another.
 
-ghost use Rattle.std.specs.Prelude.{◌≡◌, ◌<◌, ◌≤◌, ◌*◌, ◌++◌, ◌∷◌, ◌≢◌, ◌⊎◌, false, suc, ℕ, ℤ, List, [], length, get_or, IsTrue, IfOk, IfSome, MatchOption, ◌↔◌};
+ghost use Rattle.std.specs.Prelude.{◌≡◌, ◌<◌, ◌≤◌, ◌*◌, ◌++◌, ◌∷◌, ◌≢◌, ◌⊎◌, false, suc, ℕ, ℤ, List, [], length, get_or, IsTrue, IsOk, IfOk, IfSome, MatchOption, ◌↔◌};
 ghost use Rattle.std.specs.List.{Contains, All};
 ghost use Rattle.lt_model.specs.Flat.{rows};
 ghost use Rattle.lt_model.specs.Limits.{span_limit};
@@ -11,15 +11,16 @@ ghost use Rattle.lt_geometry.specs.Carrying.{IsCandidate};
 ghost use Rattle.lt_geometry.proofs.Rearranged.{IsDistinct};
 ghost use Rattle.lt_triang.specs.Bounds.{AreNear};
 ghost use Rattle.lt_triang.specs.Kept.{IsTriangulation, dimension_of, IsOfSomeForm};
-ghost use Rattle.lt_colour.specs.Signatures.{AreClassSignatures, IsClassSignature};
+ghost use Rattle.lt_colour.specs.Signatures.{IsClassSignature};
 ghost use Rattle.lt_match.specs.Bases.{IsBasis};
-ghost use Rattle.lt_match.specs.Matches.{in_order, BeginsWith, HasNoMatch, IsMatch, IsFirstOrder, IsFirstMatch, ArePlaces, AreSigned, IsBeginning};
+ghost use Rattle.lt_match.specs.Beyond.{AreFacetSignatures};
+ghost use Rattle.lt_match.specs.Matches.{in_order, BeginsWith, HasNoMatch, IsMatch, IsFirstOrder, IsFirstMatch, AreSigned, IsBeginning};
 
 use crate::bases::{Basis, basis_of, matrix_taking};
 use crate::carrying::{all_go, comes_back};
-use crate::facets::{FacetSignature, facet_signatures, near_signatures};
+use crate::facets::{FacetSignature, facet_signatures};
 use arrayvec::ArrayVec;
-use lt_colour::{ClassSignature, class_signatures, signature};
+use lt_colour::short_class_signature;
 use lt_lattice::{Matrix, Point};
 use lt_model::Memory;
 use lt_triang::Triangulation;
@@ -151,67 +152,54 @@ fn search(
     None
 }
 
-/// The places of the members of `to` that have the signature `own` of the first class of `from`, in ascending order. A match takes that class
-/// to one of them.
-fn candidate_places(
-    alloc: Global,
+/// The match of the first order that has one, where the first class of `from` goes to the member of `to` at place `n`. `own` is the signature of
+/// that class, and `first` are those of its facets: a member with another signature has no match, and is passed over.
+fn match_at(
     d: usize,
+    basis: &Basis,
     from: &Triangulation,
     to: &Triangulation,
-    own: &[i128],
-    others: &[ClassSignature],
-) -> Result<Vec<usize>, Memory>
-    requires origin { IsTriangulation d from.now }
-    requires target { IsTriangulation d to.now }
-    requires delaunay { IsOfSomeForm from.now }
-    requires delaunay_too { IsOfSomeForm to.now }
-    requires signature { IsClassSignature (dimension_of from.now) from.now (get_or from.now 0 []) own.now }
-    requires signatures { AreClassSignatures (dimension_of to.now) to.now others.now }
-    ensures { IfOk result (λ places. ArePlaces d from.now to.now places.items) }
-{
-    let mut places = Vec::new(alloc);
-    for n in 0..to.len() {
-        if others[n].numbers() == own {
-            places.push(n)?;
-        }
-    }
-    Ok(places)
-}
-
-/// The first match, where members are gone through by the places.
-fn first_match(
-    d: usize,
-    from: &Triangulation,
-    to: &Triangulation,
-    others: &[ClassSignature],
-    places: &[usize],
+    own: &[i64],
+    first: &[FacetSignature],
+    n: usize,
 ) -> Option<Matrix>
     requires origin { IsTriangulation d from.now }
     requires target { IsTriangulation d to.now }
     requires delaunay { IsOfSomeForm from.now }
     requires delaunay_too { IsOfSomeForm to.now }
-    requires signatures { AreClassSignatures (dimension_of to.now) to.now others.now }
     requires count { length from.now ≡ length to.now }
-    requires places { ArePlaces d from.now to.now places.now }
+    requires basis { IsBasis d (get_or from.now 0 []) basis.now.scales.items basis.now.terms.items }
+    requires signature { IsClassSignature (dimension_of from.now) from.now (get_or from.now 0 []) own.now }
+    requires facets { AreFacetSignatures (dimension_of from.now) from.now (get_or from.now 0 []) first.now }
+    requires place { n < length to.now }
+    ensures { MatchOption result ((q : List ℕ) → HasNoMatch d from.now to.now (get_or to.now n []) q)
+        (λ u. (length u ≡ d * d) × IsFirstOrder d from.now to.now (get_or to.now n []) [] (rows d u)) }
+{
+    let signature = short_class_signature(to, n);
+    if signature.as_slice() != own {
+        return None;
+    }
+    let facets = facet_signatures(to, n);
+    let s = to.class(n).vertices();
+    search(d, basis, from, to, s, first, facets.as_slice(), &[])
+}
+
+/// The first match: the members of `to` are gone through in their order.
+fn first_match(d: usize, from: &Triangulation, to: &Triangulation) -> Option<Matrix>
+    requires origin { IsTriangulation d from.now }
+    requires target { IsTriangulation d to.now }
+    requires delaunay { IsOfSomeForm from.now }
+    requires delaunay_too { IsOfSomeForm to.now }
+    requires count { length from.now ≡ length to.now }
     ensures { MatchOption result ((n : ℕ) → n < length to.now → (q : List ℕ) →
         HasNoMatch d from.now to.now (get_or to.now n []) q) (λ u. (length u ≡ d * d) ×
         IsFirstMatch d from.now to.now (rows d u)) }
 {
     let basis = basis_of(d, from.class(0).vertices());
-    let first = near_signatures(from, 0);
-    for n in places {
-        let facets = facet_signatures(to, others, *n);
-        let s = to.class(*n).vertices();
-        match search(
-            d,
-            &basis,
-            from,
-            to,
-            s,
-            first.as_slice(),
-            facets.as_slice(),
-            &[],
-        ) {
+    let own = short_class_signature(from, 0);
+    let first = facet_signatures(from, 0);
+    for n in 0..to.len() {
+        match match_at(d, &basis, from, to, own.as_slice(), first.as_slice(), n) {
             Some(u) => return Some(u),
             None => {}
         }
@@ -221,7 +209,7 @@ fn first_match(
 
 /// The first matrix that carries `from` onto `to`, or None where none does. The matrices are ordered by the member of `to` to which the
 /// first class of `from` goes, and then by the order in which its vertices go to that member's, lexicographically. Both triangulations
-/// are Delaunay triangulations of some form. Memory where memory was refused.
+/// are Delaunay triangulations of some form. It takes no memory, so it always answers.
 pub fn match_types(
     alloc: Global,
     from: &Triangulation,
@@ -230,6 +218,7 @@ pub fn match_types(
     requires same { dimension_of to.now ≡ dimension_of from.now }
     requires delaunay { IsOfSomeForm from.now }
     requires delaunay_too { IsOfSomeForm to.now }
+    ensures answers { IsOk result }
     ensures size { IfOk result (λ r. IfSome r (λ u. length u ≡ dimension_of from.now * dimension_of from.now)) }
     ensures first { IfOk result (λ r. MatchOption r (AreEquivalent (dimension_of from.now) from.now to.now →
         ⊥) (λ u. IsFirstMatch (dimension_of from.now) from.now to.now (rows (dimension_of from.now) u))) }
@@ -239,8 +228,5 @@ pub fn match_types(
     if from.len() != to.len() {
         return Ok(None);
     }
-    let own = signature(from, 0);
-    let others = class_signatures(alloc, to)?;
-    let places = candidate_places(alloc, d, from, to, own.as_slice(), others.as_slice())?;
-    Ok(first_match(d, from, to, others.as_slice(), places.as_slice()))
+    Ok(first_match(d, from, to))
 }

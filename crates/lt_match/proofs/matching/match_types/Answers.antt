@@ -23,6 +23,3 @@ returns-clause-size c = size_told c.dimension-d.result c.args.from.now c.first_m
 
 pub returns-clause-first : goal.returns-clause-first
 returns-clause-first c = first_told c.dimension-d.result c.args.from.now c.args.to.now c.first_match.result c.dimension-d.ensures c.first_match.ensures
-
-pub candidate_places-requires-clause-target : goal.candidate_places-requires-clause-target
-candidate_places-requires-clause-target c = same_dimension c.dimension-d.result c.dimension-same.result c.args.from.now c.args.to.now c.dimension-d.ensures c.dimension-same.ensures c.requires.same
