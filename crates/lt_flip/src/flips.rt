@@ -12,8 +12,8 @@ ghost use Rattle.lt_flip.specs.declared.flips.FlipError.TheVariants.{Wide};
 use crate::exchanges::push_exchanged;
 use crate::outers::outer_of;
 use lt_lattice::Normal;
-use lt_model::Memory;
-use lt_triang::{Class, Triangulation, sorted_distinct, span_limit};
+use lt_model::{Memory, span_limit};
+use lt_triang::{Class, Triangulation, sorted_distinct};
 use std::alloc::Global;
 
 /// Why no triangulation across a facet is answered.
@@ -87,7 +87,7 @@ fn first_wide(d: u8, classes: &[Class]) -> Option<usize>
 {
     let limit = span_limit(d);
     for i in 0..classes.len() {
-        if classes[i].span() > limit {
+        if classes[i].is_wider(limit) {
             return Some(i);
         }
     }

@@ -1,8 +1,5 @@
-use Rattle.std.proofs.Common.{◌≡◌, ◌≤◌, ℕ, ℤ, List, length, get_or, [], sym, ap, ◌∙◌, subst}
-use Rattle.lt_model.specs.Limits.{span, span_limit}
-use Rattle.lt_model.specs.Walls.{IsAcross}
-use Rattle.lt_model.specs.Flips.{IsFlipOf}
-use Rattle.lt_triang.specs.Kept.{IsTriangulation, dimension_of, IsOfSomeForm}
+use Rattle.std.proofs.Common.{◌≡◌, sym, ap, ◌∙◌}
+use Rattle.lt_triang.specs.Kept.{IsTriangulation, dimension_of}
 use Rattle.lt_triang.proofs.Expressed.{dimension_is}
 use Rattle.lt_flip.proofs.flips.flip.Goals as goal
 
