@@ -1,4 +1,4 @@
-use Rattle.std.proofs.Common.{◌≡◌, sym, subst, ◌∙◌, ℕ}
+use Rattle.std.proofs.Common.{sym, subst, ◌∙◌, ℕ}
 use Rattle.std.specs.Prelude.{IsTrue, ◌↔◌}
 use Rattle.lt_model.specs.Flat.{rows}
 use Rattle.lt_model.specs.Matrices.{Carries}
