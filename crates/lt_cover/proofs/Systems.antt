@@ -7,15 +7,15 @@ use Rattle.std.proofs.lemmas.List.Elements.{All-nil, All-cons}
 use Rattle.lt_model.proofs.Flat.{rows-flat, length-flat}
 use Rattle.lt_model.proofs.Walk.{length-map}
 use Rattle.lt_model.proofs.Sets.{Contains-head, Contains-tail}
-use Rattle.lt_model.specs.Flat.{flat}
+use Rattle.lt_model.specs.Flat.{flat, rows}
 use Rattle.lt_model.specs.Forms.{value, polar}
 use Rattle.lt_model.specs.Limits.{span_limit}
 use Rattle.lt_model.specs.Matrices.{IsSquare}
 use Rattle.lt_model.specs.Simplices.{AllOfDimension}
 use Rattle.lt_model.proofs.Points.{count_rest}
 use Rattle.lt_lattice.specs.Ranges.{IsWithin}
-use Rattle.lt_solve.specs.Systems.{chunks, IsSmall}
-use Rattle.lt_triang.proofs.Columned.{All-flat, chunks_are}
+use Rattle.lt_solve.specs.Systems.{IsSmall}
+use Rattle.lt_triang.proofs.Columned.{All-flat}
 use Rattle.lt_cover.specs.Gram.{gram, IsMeasured}
 use Rattle.lt_cover.proofs.Centres.{length-gram}
 use Rattle.lt_cover.proofs.Measures.{from_first, low_at, short_at, high_at, some_vertex, product_small}
@@ -46,8 +46,8 @@ module _ (d : ℕ) (q : List ℤ) (s : List (List ℤ)) (h : IsMeasured d q s) w
   square : IsSquare d (gram q vs)
   square = record { rows = length-gram q vs vs ∙ count; columns = columns_all d q vs vs count }
 
-  pub gram_chunks : chunks d d (flat (gram q vs)) ≡ gram q vs
-  gram_chunks = chunks_are d d (flat (gram q vs)) ∙ rows-flat d (gram q vs) square
+  pub gram_rows : rows d (flat (gram q vs)) ≡ gram q vs
+  gram_rows = rows-flat d (gram q vs) square
 
   pub gram_square : length (flat (gram q vs)) ≡ d * d
   gram_square = length-flat d (gram q vs) square.columns ∙ ap (λ (n : ℕ). n * d) square.rows

@@ -1,9 +1,9 @@
 -- The differences of points from the first, written number by number.
-use Rattle.std.proofs.Common.{◌≡◌, ℕ, zero, suc, ℤ, negsuc, ◌+◌, ◌-◌, ◌*◌, ◌<◌, ◌≤◌, refl, ap, arith, sym, ◌∙◌, List, [], ◌∷◌, ◌++◌, length, take, drop, mul-le-mul}
+use Rattle.std.proofs.Common.{◌≡◌, ℕ, zero, suc, ℤ, negsuc, ◌+◌, ◌-◌, ◌*◌, ◌<◌, ◌≤◌, refl, ap, arith, sym, ◌∙◌, List, [], ◌∷◌, ◌++◌, length, drop, mul-le-mul}
 use Rattle.std.proofs.lemmas.List.{length-append, length-drop}
 use Rattle.lt_model.specs.Vectors.{scale, zeros}
 use Rattle.lt_model.specs.Simplices.{AllOfDimension, translate, IsClass}
-use Rattle.lt_model.specs.Flat.{flat, first_rows}
+use Rattle.lt_model.specs.Flat.{flat, rows}
 use Rattle.lt_model.proofs.Flat.{length-flat, rows-flat}
 use Rattle.lt_model.proofs.Squares.{length-scale}
 use Rattle.lt_model.proofs.Excess.{length-translate}
@@ -11,7 +11,6 @@ use Rattle.lt_model.proofs.Moved.{translate_all}
 use Rattle.lt_model.specs.Matrices.{IsSquare}
 use Rattle.std.specs.List.{All, AllByRecursion}
 use Rattle.std.proofs.lemmas.List.Elements.{All-nil, All-append}
-use Rattle.lt_solve.specs.Systems.{chunks}
 use Rattle.lt_triang.specs.Flat.{columns_of}
 use Rattle.lt_triang.proofs.Gaps.{minus-zeros}
 
@@ -50,16 +49,12 @@ pub All-flat : (P : ℤ → Type 0) (u : List (List ℤ)) → AllByRecursion (Al
 All-flat P [] h = All-nil P
 All-flat P (r ∷ u) h = All-append P r (flat u) h.0 (All-flat P u h.1)
 
-pub chunks_are : (n d : ℕ) (u : List ℤ) → chunks n d u ≡ first_rows n d u
-chunks_are zero d u = refl
-chunks_are (suc n) d u = ap (λ l. take d u ∷ l) (chunks_are n d (drop d u))
-
-pub chunks-columns : (d : ℕ) (ps : List (List ℤ)) → length ps ≡ suc d → AllOfDimension d ps → chunks d d (flat (columns_of ps)) ≡ columns_of ps
-chunks-columns d [] l all = absurd (omega arith)
-chunks-columns d (p ∷ ps) l all =
+pub rows-columns : (d : ℕ) (ps : List (List ℤ)) → length ps ≡ suc d → AllOfDimension d ps → rows d (flat (columns_of ps)) ≡ columns_of ps
+rows-columns d [] l all = absurd (omega arith)
+rows-columns d (p ∷ ps) l all =
     let q : List ℤ = scale (negsuc 0) p in
     let square : IsSquare d (translate q ps) = record { rows = length-translate q ps ∙ (omega (arith, l)); columns = translate_all d q ps (length-scale (negsuc 0) p ∙ all.0) all.1 } in
-    chunks_are d d (flat (translate q ps)) ∙ rows-flat d (translate q ps) square
+    rows-flat d (translate q ps) square
 
 -- the first vertex of a class is 0
 pub columns-class : (d : ℕ) (s : List (List ℤ)) → IsClass d s → columns_of s ≡ drop 1 s

@@ -1,12 +1,11 @@
 use Rattle.std.proofs.Common.{◌≡◌, ◌-◌, ◌∙◌, arith, sym, ℕ, ℤ, List, length, drop}
 use Rattle.lt_model.proofs.Walk.{length-map}
-use Rattle.lt_model.specs.Flat.{flat}
+use Rattle.lt_model.specs.Flat.{flat, rows}
 use Rattle.lt_model.specs.Forms.{value}
 use Rattle.lt_model.specs.Simplices.{IsClass}
-use Rattle.lt_solve.specs.Systems.{chunks}
 use Rattle.lt_cover.specs.Gram.{gram, IsMeasured}
 use Rattle.lt_cover.proofs.Centres.{length-gram, no_dependency}
-use Rattle.lt_cover.proofs.Systems.{gram_chunks, gram_square, gram_small, length-columns, values_small}
+use Rattle.lt_cover.proofs.Systems.{gram_rows, gram_square, gram_small, length-columns, values_small}
 use Rattle.lt_cover.proofs.radii.combination.Goals.{After-as_slice}
 use Rattle.lt_cover.proofs.radii.combination.Goals as goal
 
@@ -22,11 +21,11 @@ of-columns-requires-clause-square c = rw (items c, same c) (gram_square (length 
 pub of-columns-requires-clause-small : goal.of-columns-requires-clause-small
 of-columns-requires-clause-small c = rw (items c, same c) (gram_small (length c.args.class.now - 1) c.args.q.now c.args.class.now c.requires.measured)
 
-columns_are : (q : List ℤ) (s : List (List ℤ)) (d : ℕ) (numbers : List ℤ) (columns : List (List ℤ)) → IsMeasured (length s - 1) q s → IsClass d s → numbers ≡ flat (gram q (drop 1 s)) → columns ≡ chunks d d numbers → columns ≡ gram q (drop 1 s)
+columns_are : (q : List ℤ) (s : List (List ℤ)) (d : ℕ) (numbers : List ℤ) (columns : List (List ℤ)) → IsMeasured (length s - 1) q s → IsClass d s → numbers ≡ flat (gram q (drop 1 s)) → columns ≡ rows d numbers → columns ≡ gram q (drop 1 s)
 columns_are q s d numbers columns h k m e =
     let n : d ≡ length s - 1 = omega (arith, k.simplex.count) in
     let f = rw (m, n) at e in
-    f ∙ gram_chunks (length s - 1) q s h
+    f ∙ gram_rows (length s - 1) q s h
 
 pub solve-requires-clause-same : goal.solve-requires-clause-same
 solve-requires-clause-same c =

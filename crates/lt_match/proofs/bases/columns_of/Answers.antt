@@ -1,12 +1,11 @@
 use Rattle.std.proofs.Common.{arith, ◌≡◌, ◌*◌, ◌-◌, ◌∙◌, ℕ, suc, ap, length, drop}
 use Rattle.std.specs.List.{All}
 use Rattle.lt_model.specs.Limits.{span_limit}
-use Rattle.lt_model.specs.Flat.{flat}
+use Rattle.lt_model.specs.Flat.{flat, rows}
 use Rattle.lt_model.proofs.Points.{count_rest}
 use Rattle.lt_lattice.specs.Ranges.{IsWithin}
-use Rattle.lt_solve.specs.Systems.{chunks}
 use Rattle.lt_triang.proofs.Columned.{All-flat, drop_dimension}
-use Rattle.lt_match.proofs.Written.{length-flat_rest, chunks-flat, drop_within}
+use Rattle.lt_match.proofs.Written.{length-flat_rest, rows-points, drop_within}
 use Rattle.lt_match.proofs.bases.columns_of.Goals as goal
 
 less_one : (n d : ℕ) → n ≡ suc d → n - 1 ≡ d
@@ -28,4 +27,4 @@ pub returns : goal.returns
 returns c =
     let ps = c.args.points.now in
     let d = c.args.d in
-    c.of.ensures ∙ ap (chunks d d) (c.as_slice.ensures.value ∙ c.numbers_of.ensures) ∙ chunks-flat d (drop 1 ps) (count_rest d ps c.requires.count) (drop_dimension d 1 ps c.requires.dimension)
+    c.of.ensures ∙ ap (rows d) (c.as_slice.ensures.value ∙ c.numbers_of.ensures) ∙ rows-points d (drop 1 ps) (count_rest d ps c.requires.count) (drop_dimension d 1 ps c.requires.dimension)

@@ -1,10 +1,9 @@
 use Rattle.std.proofs.Common.{arith, ◌≡◌, ◌-◌, ◌*◌, length, ap, ◌∙◌}
 use Rattle.lt_model.specs.Limits.{span_limit}
-use Rattle.lt_model.specs.Flat.{flat}
+use Rattle.lt_model.specs.Flat.{flat, rows}
 use Rattle.lt_lattice.specs.Ranges.{IsWithin}
-use Rattle.lt_solve.specs.Systems.{chunks}
 use Rattle.lt_triang.specs.Flat.{columns_of}
-use Rattle.lt_triang.proofs.Columned.{length-columns, All-flat, chunks-columns}
+use Rattle.lt_triang.proofs.Columned.{length-columns, All-flat, rows-columns}
 use Rattle.lt_triang.proofs.Steps.{of_near}
 use Rattle.lt_triang.proofs.vertices.columns.Goals as goal
 
@@ -24,4 +23,4 @@ pub returns : goal.returns
 returns c =
     let ps = c.args.points.now in
     let d = length ps - 1 in
-    c.of.ensures ∙ ap (chunks d d) (c.as_slice.ensures.value ∙ c.differences.ensures) ∙ chunks-columns d ps (omega (arith, c.requires.low)) c.requires.dimension
+    c.of.ensures ∙ ap (rows d) (c.as_slice.ensures.value ∙ c.differences.ensures) ∙ rows-columns d ps (omega (arith, c.requires.low)) c.requires.dimension
