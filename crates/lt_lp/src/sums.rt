@@ -65,7 +65,8 @@ pub fn unit_sums(t: &Tableau) -> [i64; 22]
 }
 
 /// The sum of the column's numbers in the rows with a unit variable: the reduced cost with its sign changed. By the rows' law it is
-/// the pairing of the column of the system with the sums of the unit columns. It is small, so it is summed modulo 2^64.
+/// the pairing of the column of the system with the sums of the unit columns, of which many are 0. It is small, so it is summed modulo
+/// 2^64.
 pub fn gain(t: &Tableau, sums: &[i64; 22], column: usize) -> i64
     requires inside { column < units_of t.now }
     requires values { (q : ℕ) → q < t.now.rows → lookup sums.now q ≡ gain_of t.now (units_of t.now + q) }
@@ -74,7 +75,9 @@ pub fn gain(t: &Tableau, sums: &[i64; 22], column: usize) -> i64
     let numbers = t.numbers(column);
     let mut sum: i64 = 0;
     for q in 0..t.rows() {
-        sum = sum.wrapping_add(sums[q].wrapping_mul(numbers[q]));
+        if sums[q] != 0 {
+            sum = sum.wrapping_add(sums[q].wrapping_mul(numbers[q]));
+        }
     }
     sum
 }

@@ -1,16 +1,18 @@
 use Rattle.std.proofs.Common.{◌≡◌, ◌+◌, ◌*◌, ◌%◌, ◌^◌, ◌*ℤ◌, ◌+ℤ◌, sym, ◌∙◌, ap, ap₂, ℕ, ℤ, pos, List, get_or, arith, rules, FitsSigned, to_z}
 use Rattle.std.specs.Int.{int_wrap, w64}
-use Rattle.std.proofs.lemmas.Int.{int_wrap_fits, int_wrap-add_right, fits_signed_from_abs, wrapping_add-bits, wrapping_mul_is}
+use Rattle.std.proofs.lemmas.Int.{int_wrap_fits, to_z-of_z, int_wrap-add_right, fits_signed_from_abs, wrapping_add-bits, wrapping_mul_is}
 use mir.Val.{of_z}
 use Rattle.lt_model.specs.Padded.{lookup}
+use Rattle.lt_model.proofs.Integers.{zero_mul_z}
 use Rattle.lt_tableau.specs.Numbers.{column_at, sum_below}
 use Rattle.lt_tableau.specs.Table.{entry_of, units_of}
 use Rattle.lt_lp.specs.Rule.{gain_of}
 use Rattle.lt_tableau.proofs.Sums.{lookup_is, sum_same}
-use Rattle.lt_tableau.proofs.Multiples.{sum_step, zero_wraps}
+use Rattle.lt_tableau.proofs.Multiples.{sum_step, sum_stays, zero_wraps}
 use Rattle.lt_lp.proofs.Falls.{unit_sum_small}
 use Rattle.lt_lp.proofs.Signs.{gain_law}
 use Rattle.lt_lp.proofs.sums.gain.Goals as goal
+use Rattle.lt_lp.proofs.sums.gain.Goals.{then-sums-q-ne0, else-sums-q-ne0}
 
 pub loop-q-init : goal.loop-q-init
 loop-q-init c = sym zero_wraps
@@ -21,13 +23,20 @@ loop-q-preserved c =
     let x = get_or c.args.sums.now q (pos 0) in
     let y = get_or c.numbers-numbers.result.now q (pos 0) in
     let fx : FitsSigned w64 x = search rules in
-    let fy : FitsSigned w64 y = search rules in
     let s = to_z w64 c.loop-q.sum-bits in
+    let z = lookup (column_at c.args.t.now.system c.args.column) q in
     let terms = λ (i : ℕ). lookup c.args.sums.now i *ℤ lookup (column_at c.args.t.now.system c.args.column) i in
-    let product = wrapping_mul_is w64 x y fx fy in
-    let sum = wrapping_add-bits w64 c.loop-q.sum-bits (of_z w64 x * of_z w64 y % 2 ^ 64) (search rules) (search rules) in
-    let e : x *ℤ y ≡ terms q = ap₂ ◌*ℤ◌ (sym (lookup_is c.args.sums.now q)) (sym (lookup_is c.numbers-numbers.result.now q) ∙ ap (λ (z : List ℤ). lookup z q) c.numbers-numbers.ensures) in
-    sum_step terms q s _ c.loop-q.invariant (sum ∙ ap (λ z. int_wrap w64 (s +ℤ z)) product ∙ int_wrap-add_right w64 s (x *ℤ y) ∙ ap (λ z. int_wrap w64 (s +ℤ z)) e)
+    elim c.if-sums-q-ne0.branch [
+      | then-sums-q-ne0 w ↦
+          let fy : FitsSigned w64 y = search rules in
+          let product = wrapping_mul_is w64 x y fx fy in
+          let sum = wrapping_add-bits w64 c.loop-q.sum-bits (of_z w64 x * of_z w64 y % 2 ^ 64) (search rules) (search rules) in
+          let e : x *ℤ y ≡ terms q = ap₂ ◌*ℤ◌ (sym (lookup_is c.args.sums.now q)) (sym (lookup_is c.numbers-numbers.result.now q) ∙ ap (λ (z : List ℤ). lookup z q) c.numbers-numbers.ensures) in
+          simp w.sum-is (sum_step terms q s _ c.loop-q.invariant (sum ∙ ap (λ z. int_wrap w64 (s +ℤ z)) product ∙ int_wrap-add_right w64 s (x *ℤ y) ∙ ap (λ z. int_wrap w64 (s +ℤ z)) e))
+      | else-sums-q-ne0 w ↦
+          let n : x ≡ pos 0 = simp to_z-of_z at (ap (to_z w64) w.if-sums-q-ne0.false) in
+          simp w.sum-is (sum_stays terms q s (rw (lookup_is c.args.sums.now q ∙ n) (zero_mul_z z)) c.loop-q.invariant)
+    ]
 
 pub returns : goal.returns
 returns c =
