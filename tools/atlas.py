@@ -6,16 +6,19 @@ from __future__ import annotations
 import argparse
 import os
 import sys
-from typing import Iterable, Sequence
+from typing import Callable, Iterable, Sequence, TypeVar
 
-from ltypes_atlas import converting, exporting, ordering, pictures, tables, text
+from ltypes_atlas import blocks, converting, exporting, ordering, pictures, pruning, tables, text
 from ltypes_atlas.rechecking import Recheck
 
 
-def read_atlas(path: str) -> text.Atlas:
-    """The atlas of the file, or of standard input where the path is a stroke."""
+Value = TypeVar("Value")
+
+
+def read_from(path: str, read: Callable[[Iterable[str]], Value]) -> Value:
+    """What is read of the file, or of standard input where the path is a stroke."""
     with open(0 if path == "-" else path, encoding="ascii", errors="replace", newline="\n") as lines:
-        return text.read(lines)
+        return read(lines)
 
 
 def write_lines(lines: Iterable[str]) -> int:
@@ -27,7 +30,7 @@ def write_lines(lines: Iterable[str]) -> int:
 def recheck(path: str) -> int:
     """Prints a line for each fault; the status is 0 where there is none, else 1."""
     try:
-        checker = Recheck(read_atlas(path))
+        checker = Recheck(read_from(path, text.read))
     except text.TextError as error:
         print(f"text {error}")
         return 1
@@ -50,6 +53,7 @@ def parser() -> argparse.ArgumentParser:
         ("export", "print the atlas in another language"),
         ("picture", "print a picture (SVG)"),
         ("reorder", "print the same atlas in another order of entries"),
+        ("prune", "print the same atlas with every facet open but those across which an entry was found"),
         ("convert", "print the same atlas in another version of the text, without wide and heavy marks"),
     ):
         command = commands.add_parser(name, help=told, description=told)
@@ -65,25 +69,32 @@ def parser() -> argparse.ArgumentParser:
     return top
 
 
+def changed(asked: argparse.Namespace) -> Iterable[str]:
+    """The lines that a command prints whose atlas reads as a text."""
+    if asked.command == "reorder":
+        return blocks.written(ordering.reordered(read_from(asked.atlas, blocks.read), asked.seed))
+    if asked.command == "prune":
+        return blocks.written(pruning.pruned(read_from(asked.atlas, blocks.read)))
+    atlas = read_from(asked.atlas, text.read)
+    if asked.command == "types":
+        return tables.table(atlas)
+    if asked.command == "export":
+        return exporting.WRITERS[asked.to](atlas)
+    if asked.command == "picture":
+        return pictures.PICTURES[asked.of](atlas)
+    return text.written(converting.reopened(atlas), asked.to)
+
+
 def main(words: Sequence[str]) -> int:
     """Carries out a command; the answer is the status."""
     asked = parser().parse_args(words)
     if asked.command == "recheck":
         return recheck(asked.atlas)
     try:
-        atlas = read_atlas(asked.atlas)
+        return write_lines(changed(asked))
     except text.TextError as error:
         print(f"text {error}", file=sys.stderr)
         return 1
-    if asked.command == "types":
-        return write_lines(tables.table(atlas))
-    if asked.command == "export":
-        return write_lines(exporting.WRITERS[asked.to](atlas))
-    if asked.command == "picture":
-        return write_lines(pictures.PICTURES[asked.of](atlas))
-    if asked.command == "convert":
-        return write_lines(text.written(converting.reopened(atlas), asked.to))
-    return write_lines(text.written(ordering.reordered(atlas, asked.seed)))
 
 
 if __name__ == "__main__":

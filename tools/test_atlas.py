@@ -13,7 +13,7 @@ from typing import Any, Callable
 
 sys.path.insert(0, str(Path(__file__).resolve().parent))
 
-from ltypes_atlas import converting, exporting, lattice, ordering, pictures, tables, text
+from ltypes_atlas import blocks, converting, exporting, lattice, ordering, pictures, pruning, tables, text
 from ltypes_atlas.rechecking import Recheck
 from ltypes_atlas.text import Atlas, Combination, Cross, Entry, Heavy, Origin, Regulator, Simplex, Wall, Wide, half, negative_of
 
@@ -267,13 +267,18 @@ class Rechecks(unittest.TestCase):
         self.assertIn((3, "entry", 3), faults(replace(atlas, entries=atlas.entries + (moved,))))
 
 
+def reordered(atlas: Atlas, seed: int) -> Atlas:
+    """The atlas of the reordered text."""
+    return text.read(blocks.written(ordering.reordered(blocks.read(text.written(atlas)), seed)))
+
+
 class Orders(unittest.TestCase):
     """Other orders of the entries."""
 
     def test_same_atlas(self) -> None:
-        atlas = ordering.reordered(stored(4), 5)
+        atlas = reordered(stored(4), 5)
         self.assertEqual(faults(atlas), [])
-        self.assertEqual(ordering.reordered(stored(4), 5), atlas)
+        self.assertEqual(reordered(stored(4), 5), atlas)
 
     def test_origins_come_first(self) -> None:
         """Of an entry with five branches; certificates play no part in it."""
@@ -281,11 +286,38 @@ class Orders(unittest.TestCase):
         branches = tuple(replace(second, number=k, origin=Origin(0 if k < 4 else 1, k)) for k in range(1, 7))
         found = set()
         for seed in range(20):
-            atlas = ordering.reordered(Atlas(2, 4, (first,) + branches), seed)
+            atlas = reordered(Atlas(2, 4, (first,) + branches), seed)
             self.assertEqual([entry.number for entry in atlas.entries], list(range(7)))
             self.assertTrue(all(e.origin.entry < e.number for e in atlas.entries[1:] if e.origin))
             found.add(tuple(e.origin for e in atlas.entries))
         self.assertGreater(len(found), 5)
+
+
+class Blocks(unittest.TestCase):
+    """Texts as blocks of lines."""
+
+    def test_same_text(self) -> None:
+        for dimension in (2, 3, 4):
+            for version in text.VERSIONS:
+                with self.subTest(dimension=dimension, version=version):
+                    lines = lines_of(dimension, version)
+                    self.assertEqual(list(blocks.written(blocks.read(lines))), lines)
+
+    def test_short_texts(self) -> None:
+        """The line behind the last is named."""
+        lines = lines_of(4)
+        for count in range(len(lines)):
+            with self.subTest(count), self.assertRaises(text.TextError) as raised:
+                blocks.read(lines[:count])
+            self.assertEqual(raised.exception.line, count + 1)
+
+    def test_pruned(self) -> None:
+        """The three types of dimension 4 hang together by two facets."""
+        whole = stored(4)
+        atlas = text.read(blocks.written(pruning.pruned(blocks.read(text.written(whole)))))
+        self.assertEqual(faults(atlas), [])
+        self.assertEqual([(e, f) for e, f, _ in atlas.crossings()], [(e.origin.entry, e.origin.facet) for e in whole.entries[1:] if e.origin])
+        self.assertEqual([replace(entry, marks=()) for entry in atlas.entries], [replace(entry, marks=()) for entry in whole.entries])
 
 
 class Figures(unittest.TestCase):

@@ -4,17 +4,18 @@ from __future__ import annotations
 
 import random
 from dataclasses import replace
+from typing import Sequence
 
-from ltypes_atlas.text import Atlas, Cross, Entry, Mark
+from ltypes_atlas.blocks import Block, Blocks
 
 
-def order_of(atlas: Atlas, seed: int) -> list[int]:
+def order_of(entries: Sequence[Block], seed: int) -> list[int]:
     """The numbers of the entries in a random order in which each comes after its origin."""
     generator = random.Random(seed)
-    found: dict[int, list[int]] = {entry.number: [] for entry in atlas.entries}
-    for entry in atlas.entries:
+    found: list[list[int]] = [[] for _ in entries]
+    for number, entry in enumerate(entries):
         if entry.origin is not None:
-            found[entry.origin.entry].append(entry.number)
+            found[entry.origin.entry].append(number)
     ready, order = [0], []
     while ready:
         number = ready.pop(generator.randrange(len(ready)))
@@ -23,20 +24,22 @@ def order_of(atlas: Atlas, seed: int) -> list[int]:
     return order
 
 
-def renamed_mark(mark: Mark, names: dict[int, int]) -> Mark:
+def renamed_mark(line: str, names: dict[int, int]) -> str:
     """The mark with the new number of its entry. Its matrix stays, since all classes stay as they are."""
-    return replace(mark, target=names[mark.target]) if isinstance(mark, Cross) else mark
+    if not line.startswith("cross "):
+        return line
+    word, target, matrix = line.split(" ", 2)
+    return f"{word} {names[int(target)]} {matrix}"
 
 
-def renamed(entry: Entry, names: dict[int, int]) -> Entry:
-    """The entry with new numbers of itself, its origin and its marks."""
+def renamed(entry: Block, names: dict[int, int]) -> Block:
+    """The entry with new numbers of its origin and its marks."""
     origin = entry.origin and replace(entry.origin, entry=names[entry.origin.entry])
-    marks = tuple(renamed_mark(mark, names) for mark in entry.marks)
-    return replace(entry, number=names[entry.number], origin=origin, marks=marks)
+    return replace(entry, origin=origin, marks=tuple(renamed_mark(mark, names) for mark in entry.marks))
 
 
-def reordered(atlas: Atlas, seed: int) -> Atlas:
+def reordered(blocks: Blocks, seed: int) -> Blocks:
     """The atlas in the order that the seed gives."""
-    order = order_of(atlas, seed)
+    order = order_of(blocks.entries, seed)
     names = {number: place for place, number in enumerate(order)}
-    return replace(atlas, entries=tuple(renamed(atlas.entries[number], names) for number in order))
+    return replace(blocks, entries=tuple(renamed(blocks.entries[number], names) for number in order))

@@ -390,11 +390,14 @@ def regulator_line(regulator: Regulator) -> str:
     return spelt("redundant", regulator.normal, "scale", verdict.scale, *counted)
 
 
+def came_from(origin: Union[Origin, None]) -> tuple[object, ...]:
+    """The words behind the number of an entry."""
+    return ("start",) if origin is None else ("from", origin.entry, origin.facet)
+
+
 def entry_lines(entry: Entry, version: int) -> Iterator[str]:
     """The lines of an entry in a version of the text."""
-    origin = entry.origin
-    came = ("start",) if origin is None else ("from", origin.entry, origin.facet)
-    yield spelt("entry", entry.number, *came)
+    yield spelt("entry", entry.number, *came_from(entry.origin))
     listed = entry.listed_in(version)
     yield spelt("simplices", len(listed))
     yield from (spelt(flat(simplex)) for simplex in listed)
