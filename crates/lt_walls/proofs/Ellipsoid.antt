@@ -92,29 +92,29 @@ one-at {P} {Form} {R} {sp} {Mem} {Reg} {func} {N} {A} {W} t S mem w w' out out' 
     ones c x h = sym (h 0) ∙ ap (λ y. D *ℤ y) (sp.one x) ∙ ring (D ∷ []) (var 0 ⊗ num (pos 1)) (var 0) tt
 
     -- three coordinates that aren't 0
-    three : (i j k : P) (R1 R2 R3 : List P) → Alike S (i ∷ R1) → Alike R1 (j ∷ R2) → Alike R2 (k ∷ R3) → b i ≢ pos 0 → b j ≢ pos 0 → b k ≢ pos 0 → w ≡ w'
-    three i j k R1 R2 R3 k1 k2 k3 ni nj nk = sp.inj w w' (λ l. cancel_nonzero_z D (sp.hom l w) (sp.hom l w') Dnz (e l ∙ qs-same sp.dec (sp.hom l) b b' S equal ∙ sym (e' l)))
+    three : (i j k : P) (rest1 rest2 rest3 : List P) → Alike S (i ∷ rest1) → Alike rest1 (j ∷ rest2) → Alike rest2 (k ∷ rest3) → b i ≢ pos 0 → b j ≢ pos 0 → b k ≢ pos 0 → w ≡ w'
+    three i j k rest1 rest2 rest3 k1 k2 k3 ni nj nk = sp.inj w w' (λ l. cancel_nonzero_z D (sp.hom l w) (sp.hom l w') Dnz (e l ∙ qs-same sp.dec (sp.hom l) b b' S equal ∙ sym (e' l)))
       where
-        ij : Alike S (i ∷ j ∷ R2)
+        ij : Alike S (i ∷ j ∷ rest2)
         ij = alike-trans k1 (alike-cons i k2)
 
-        jk : Alike R1 (k ∷ j ∷ R3)
+        jk : Alike rest1 (k ∷ j ∷ rest3)
         jk = alike-second j k k2 k3
 
-        ik : Alike S (i ∷ k ∷ j ∷ R3)
+        ik : Alike S (i ∷ k ∷ j ∷ rest3)
         ik = alike-trans k1 (alike-cons i jk)
 
         sij : r' *ℤ (b i *ℤ b j) ≡ r *ℤ (b' i *ℤ b' j)
-        sij = star i j R2 ij
+        sij = star i j rest2 ij
 
         sik : r' *ℤ (b i *ℤ b k) ≡ r *ℤ (b' i *ℤ b' k)
-        sik = star i k (j ∷ R3) ik
+        sik = star i k (j ∷ rest3) ik
 
-        jki : Alike S (j ∷ k ∷ i ∷ R3)
-        jki = alike-trans ij (alike-trans (alike-swap i j R2) (alike-cons j (alike-second i k (alike-refl (i ∷ R2)) k3)))
+        jki : Alike S (j ∷ k ∷ i ∷ rest3)
+        jki = alike-trans ij (alike-trans (alike-swap i j rest2) (alike-cons j (alike-second i k (alike-refl (i ∷ rest2)) k3)))
 
         sjk : r' *ℤ (b j *ℤ b k) ≡ r *ℤ (b' j *ℤ b' k)
-        sjk = star j k (i ∷ R3) jki
+        sjk = star j k (i ∷ rest3) jki
 
         sq : r *ℤ (b' i *ℤ b' i) ≡ r' *ℤ (b i *ℤ b i)
         sq = square r r' (b i) (b j) (b k) (b' i) (b' j) (b' k) rnz' nj nk sij sik sjk
@@ -123,9 +123,9 @@ one-at {P} {Form} {R} {sp} {Mem} {Reg} {func} {N} {A} {W} t S mem w w' out out' 
         ni' q = mul_nz r' (b i *ℤ b j) rnz' (mul_nz (b i) (b j) ni nj) (sij ∙ ap (λ y. r *ℤ (y *ℤ b' j)) q ∙ ring (r ∷ (b' j) ∷ []) (var 0 ⊗ (num (pos 0) ⊗ var 1)) (num (pos 0)) tt)
 
         prop : (l : P) → In sp.dec l S → b' i *ℤ b l ≡ b i *ℤ b' l
-        prop l il = elim (in-cases sp.dec l i R1 (in-alike il k1)) [
+        prop l il = elim (in-cases sp.dec l i rest1 (in-alike il k1)) [
           | inl q ↦ subst (λ y. b' i *ℤ b y ≡ b i *ℤ b' y) (sym q) (ring ((b i) ∷ (b' i) ∷ []) (var 1 ⊗ var 0) (var 0 ⊗ var 1) tt)
-          | inr h ↦ (let p = front sp.dec l R1 h in proportion r r' (b i) (b l) (b' i) (b' l) rnz ni' sq (star i l (p.0) (alike-trans k1 (alike-cons i (p.1)))))
+          | inr h ↦ (let p = front sp.dec l rest1 h in proportion r r' (b i) (b l) (b' i) (b' l) rnz ni' sq (star i l (p.0) (alike-trans k1 (alike-cons i (p.1)))))
         ]
 
         same : b' i ≡ b i
@@ -136,23 +136,23 @@ one-at {P} {Form} {R} {sp} {Mem} {Reg} {func} {N} {A} {W} t S mem w w' out out' 
         equal l il = cancel_nonzero_z (b i) (b l) (b' l) ni (ap (λ y. y *ℤ b l) (sym same) ∙ prop l il)
 
     -- two
-    two : (i j : P) (R1 R2 : List P) → Alike S (i ∷ R1) → Alike R1 (j ∷ R2) → b i ≢ pos 0 → b j ≢ pos 0 → ((v : P) → In sp.dec v R2 → b v ≡ pos 0) → ⊥
-    two i j R1 R2 k1 k2 ni nj zr = go (sign (b i) ni) (sign (b j) nj)
+    two : (i j : P) (rest1 rest2 : List P) → Alike S (i ∷ rest1) → Alike rest1 (j ∷ rest2) → b i ≢ pos 0 → b j ≢ pos 0 → ((v : P) → In sp.dec v rest2 → b v ≡ pos 0) → ⊥
+    two i j rest1 rest2 k1 k2 ni nj zr = go (sign (b i) ni) (sign (b j) nj)
       where
-        ij : Alike S (i ∷ j ∷ R2)
+        ij : Alike S (i ∷ j ∷ rest2)
         ij = alike-trans k1 (alike-cons i k2)
 
-        d2 : Distinct sp.dec (i ∷ j ∷ R2)
+        d2 : Distinct sp.dec (i ∷ j ∷ rest2)
         d2 = distinct-alike dist ij
 
         is : (f : P → ℤ) → qs f b S ≡ b i *ℤ f i +ℤ b j *ℤ f j
-        is f = alike-qs f b i ij ∙ ap (λ y. b i *ℤ f i +ℤ y) (qs-cons f b j R2 ∙ ap (λ y. b j *ℤ f j +ℤ y) (qs-zero sp.dec f b R2 zr) ∙ ring ((b j *ℤ f j) ∷ []) (var 0 ⊕ num (pos 0)) (var 0) tt)
+        is f = alike-qs f b i ij ∙ ap (λ y. b i *ℤ f i +ℤ y) (qs-cons f b j rest2 ∙ ap (λ y. b j *ℤ f j +ℤ y) (qs-zero sp.dec f b rest2 zr) ∙ ring ((b j *ℤ f j) ∷ []) (var 0 ⊕ num (pos 0)) (var 0) tt)
 
         ini : In sp.dec i S
-        ini = in-alike (in-head sp.dec i R1) (alike-sym k1)
+        ini = in-alike (in-head sp.dec i rest1) (alike-sym k1)
 
         inj : In sp.dec j S
-        inj = in-alike (in-tail sp.dec j i (j ∷ R2) (in-head sp.dec j R2)) (alike-sym ij)
+        inj = in-alike (in-tail sp.dec j i (j ∷ rest2) (in-head sp.dec j rest2)) (alike-sym ij)
 
         zz : D *ℤ sp.val W w -ℤ (b i *ℤ sp.val W i +ℤ b j *ℤ sp.val W j) ≡ pos 0
         zz = ap (λ y. D *ℤ sp.val W w -ℤ y) (sym (is (sp.val W))) ∙ sym (excess-is (sp.val W) w S D b) ∙ z
@@ -176,11 +176,11 @@ one-at {P} {Form} {R} {sp} {Mem} {Reg} {func} {N} {A} {W} t S mem w w' out out' 
         go (inl p) (inr q) = omega (arith, ints, zz, ring (D ∷ (sp.val W w) ∷ (b i) ∷ (sp.val W i) ∷ (b j) ∷ (sp.val W j) ∷ []) (var 4 ⊗ var 5 ⊖ (var 0 ⊗ var 1 ⊕ neg (var 2) ⊗ var 3)) (neg (var 0 ⊗ var 1 ⊖ (var 2 ⊗ var 3 ⊕ var 4 ⊗ var 5))) tt, between sp W (wall-definite t) j w i (λ c. wj (sym c)) (λ c. apart d2 (sym c)) wi (b j) D (neg_ℤ (b i)) t.scale_pos (omega (arith, ints, p)) (λ l. ring_by (D ∷ (sp.hom l w) ∷ (b i) ∷ (sp.hom l i) ∷ (b j) ∷ (sp.hom l j) ∷ []) (var 4 ⊗ var 5) (var 0 ⊗ var 1 ⊕ neg (var 2) ⊗ var 3) (neg (num (pos 1))) (var 0 ⊗ var 1) (var 2 ⊗ var 3 ⊕ var 4 ⊗ var 5) tt (flat l)))
 
     -- one
-    one : (i : P) (R1 : List P) → Alike S (i ∷ R1) → ((v : P) → In sp.dec v R1 → b v ≡ pos 0) → ⊥
-    one i R1 k1 zr = out (subst (λ y. In sp.dec y S) (sym eq) (in-alike (in-head sp.dec i R1) (alike-sym k1)))
+    one : (i : P) (rest1 : List P) → Alike S (i ∷ rest1) → ((v : P) → In sp.dec v rest1 → b v ≡ pos 0) → ⊥
+    one i rest1 k1 zr = out (subst (λ y. In sp.dec y S) (sym eq) (in-alike (in-head sp.dec i rest1) (alike-sym k1)))
       where
         is : (f : P → ℤ) → qs f b S ≡ b i *ℤ f i
-        is f = alike-qs f b i k1 ∙ ap (λ y. b i *ℤ f i +ℤ y) (qs-zero sp.dec f b R1 zr) ∙ ring ((b i *ℤ f i) ∷ []) (var 0 ⊕ num (pos 0)) (var 0) tt
+        is f = alike-qs f b i k1 ∙ ap (λ y. b i *ℤ f i +ℤ y) (qs-zero sp.dec f b rest1 zr) ∙ ring ((b i *ℤ f i) ∷ []) (var 0 ⊕ num (pos 0)) (var 0) tt
 
         sum : b i ≡ D
         sum = ring ((b i) ∷ []) (var 0) (var 0 ⊗ num (pos 1)) tt ∙ ap (λ u. b i *ℤ u) (sym (sp.one i)) ∙ sym (is (sp.hom 0)) ∙ ones b w e
@@ -188,15 +188,15 @@ one-at {P} {Form} {R} {sp} {Mem} {Reg} {func} {N} {A} {W} t S mem w w' out out' 
         eq : w ≡ i
         eq = sp.inj w i (λ l. cancel_nonzero_z D (sp.hom l w) (sp.hom l i) Dnz (e l ∙ is (sp.hom l) ∙ ap (λ y. y *ℤ sp.hom l i) sum))
 
-    third : (i j : P) (R1 R2 : List P) → Alike S (i ∷ R1) → Alike R1 (j ∷ R2) → b i ≢ pos 0 → b j ≢ pos 0 → ((k : P) × (R3 : List P) × Alike R2 (k ∷ R3) × (b k ≢ pos 0)) ⊎ ((v : P) → In sp.dec v R2 → b v ≡ pos 0) → w ≡ w'
-    third i j R1 R2 k1 k2 ni nj (inl p) = three i j p.0 R1 R2 p.1 k1 k2 p.2 ni nj p.3
-    third i j R1 R2 k1 k2 ni nj (inr h) = absurd (two i j R1 R2 k1 k2 ni nj h)
+    third : (i j : P) (rest1 rest2 : List P) → Alike S (i ∷ rest1) → Alike rest1 (j ∷ rest2) → b i ≢ pos 0 → b j ≢ pos 0 → ((k : P) × (rest3 : List P) × Alike rest2 (k ∷ rest3) × (b k ≢ pos 0)) ⊎ ((v : P) → In sp.dec v rest2 → b v ≡ pos 0) → w ≡ w'
+    third i j rest1 rest2 k1 k2 ni nj (inl p) = three i j p.0 rest1 rest2 p.1 k1 k2 p.2 ni nj p.3
+    third i j rest1 rest2 k1 k2 ni nj (inr h) = absurd (two i j rest1 rest2 k1 k2 ni nj h)
 
-    second : (i : P) (R1 : List P) → Alike S (i ∷ R1) → b i ≢ pos 0 → ((j : P) × (R2 : List P) × Alike R1 (j ∷ R2) × (b j ≢ pos 0)) ⊎ ((v : P) → In sp.dec v R1 → b v ≡ pos 0) → w ≡ w'
-    second i R1 k1 ni (inl p) = third i p.0 R1 p.1 k1 p.2 ni p.3 (find sp.dec b p.1)
-    second i R1 k1 ni (inr h) = absurd (one i R1 k1 h)
+    second : (i : P) (rest1 : List P) → Alike S (i ∷ rest1) → b i ≢ pos 0 → ((j : P) × (rest2 : List P) × Alike rest1 (j ∷ rest2) × (b j ≢ pos 0)) ⊎ ((v : P) → In sp.dec v rest1 → b v ≡ pos 0) → w ≡ w'
+    second i rest1 k1 ni (inl p) = third i p.0 rest1 p.1 k1 p.2 ni p.3 (find sp.dec b p.1)
+    second i rest1 k1 ni (inr h) = absurd (one i rest1 k1 h)
 
-    cases : ((i : P) × (R1 : List P) × Alike S (i ∷ R1) × (b i ≢ pos 0)) ⊎ ((v : P) → In sp.dec v S → b v ≡ pos 0) → w ≡ w'
+    cases : ((i : P) × (rest1 : List P) × Alike S (i ∷ rest1) × (b i ≢ pos 0)) ⊎ ((v : P) → In sp.dec v S → b v ≡ pos 0) → w ≡ w'
     cases (inl p) = second p.0 p.1 p.2 p.3 (find sp.dec b p.1)
     cases (inr h) = absurd (omega (arith, ints, t.scale_pos, ones b w e, qs-zero sp.dec (sp.hom 0) b S h))
 

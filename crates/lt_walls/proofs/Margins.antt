@@ -236,8 +236,8 @@ margin {P} {Form} {R} {sp} {Mem} {Reg} {func} {N} {A} {W} t k fin = (b.0, λ mu 
     Goal : ℤ → P → List P → Type 0
     Goal mu r F = (x : Next t r F) × (pos 0 <ℤ (mu *ℤ rise (sp.val W) x.opp -ℤ rise (sp.val A) x.opp))
 
-    placed : (mu : ℤ) (y r0 : P) (R0 F : List P) → Near t R0 r0 (b.0) → (b.0) ≤ℤ mu → Flipped t R0 → (r : P) → k.move y r0 ≡ r → Alike (r ∷ F) (moved (k.move y) R0) → Goal mu r F
-    placed mu y r0 R0 F n g h r e al = subst (λ q. Alike (q ∷ F) (moved (k.move y) R0) → Goal mu q F) e base al
+    placed : (mu : ℤ) (y r0 : P) (rest0 F : List P) → Near t rest0 r0 (b.0) → (b.0) ≤ℤ mu → Flipped t rest0 → (r : P) → k.move y r0 ≡ r → Alike (r ∷ F) (moved (k.move y) rest0) → Goal mu r F
+    placed mu y r0 rest0 F n g h r e al = subst (λ q. Alike (q ∷ F) (moved (k.move y) rest0) → Goal mu q F) e base al
       where
         F0 : List P
         F0 = n.F
@@ -257,26 +257,26 @@ margin {P} {Form} {R} {sp} {Mem} {Reg} {func} {N} {A} {W} t k fin = (b.0, λ mu 
         o : Opp sp (k.move y r0) (k.move y x.z) (moved (k.move y) F0)
         o = opp-moved t k y r0 x.z F0 x.opp
 
-        base : Alike (k.move y r0 ∷ F) (moved (k.move y) R0) → Goal mu (k.move y r0) F
+        base : Alike (k.move y r0 ∷ F) (moved (k.move y) rest0) → Goal mu (k.move y r0) F
         base al = (
           record { z = k.move y x.z; mem = flipped-alike t (subst (Flipped t) (moved-cons (k.move y) x.z F0) (flipped-moved t k y (x.z ∷ F0) x.mem)) (alike-cons (k.move y x.z) same); opp = opp-alike o same },
           subst (λ q. pos 0 <ℤ q) (ap₂ (λ u v. mu *ℤ u -ℤ v) (sym (both W)) (sym (both A))) (n.later mu g),
         )
           where
             same : Alike (moved (k.move y) F0) F
-            same = alike-cancel (k.move y r0) (alike-trans (subst (λ q. Alike q (moved (k.move y) R0)) (moved-cons (k.move y) r0 F0) (alike-moved (k.move y) (alike-sym n.al))) (alike-sym al))
+            same = alike-cancel (k.move y r0) (alike-trans (subst (λ q. Alike q (moved (k.move y) rest0)) (moved-cons (k.move y) r0 F0) (alike-moved (k.move y) (alike-sym n.al))) (alike-sym al))
 
             both : (Q : Form) → rise (sp.val Q) (opp-alike o same) ≡ rise (sp.val Q) x.opp
             both Q = rise-alike o same (sp.val Q) ∙ rise-moved t k y r0 x.z F0 x.opp out_z out_r Q
 
     step : (mu : ℤ) → (b.0) ≤ℤ mu → (r : P) (F : List P) → Flipped t (r ∷ F) → Goal mu r F
-    step mu g r F h = placed mu y r0 R0 F (b.1 R0 (c.2) r0 in0) g (fin.here R0 (c.2)) r (k.redo y r) (c.3)
+    step mu g r F h = placed mu y r0 rest0 F (b.1 rest0 (c.2) r0 in0) g (fin.here rest0 (c.2)) r (k.redo y r) (c.3)
       where
         c : (R : List P) × (y : P) × Member R fin.reps × Alike (r ∷ F) (moved (k.move y) R)
         c = fin.covers (r ∷ F) h
 
-        R0 : List P
-        R0 = c.0
+        rest0 : List P
+        rest0 = c.0
 
         y : P
         y = c.1
@@ -284,8 +284,8 @@ margin {P} {Form} {R} {sp} {Mem} {Reg} {func} {N} {A} {W} t k fin = (b.0, λ mu 
         r0 : P
         r0 = k.move (k.opposite y) r
 
-        in0 : In sp.dec r0 R0
-        in0 = subst (λ q. In sp.dec r0 q) (moved-back t k y R0) (in-moved sp.dec (k.move (k.opposite y)) r (moved (k.move y) R0) (in-alike (in-head sp.dec r F) (c.3)))
+        in0 : In sp.dec r0 rest0
+        in0 = subst (λ q. In sp.dec r0 q) (moved-back t k y rest0) (in-moved sp.dec (k.move (k.opposite y)) r (moved (k.move y) rest0) (in-alike (in-head sp.dec r F) (c.3)))
 
 -- ---- a form for which a simplex is strictly empty is positive definite
 

@@ -141,7 +141,7 @@ best-new {P} {Form} {R} {sp} {Mem} {Reg} {func} {N} {A} {W} t k x S a e n = go (
 
     go : ((i : P) × Least sp.dec f s n.V i) ⊎ ((v : P) → In sp.dec v n.V → pos 0 ≤ℤ s v) → Best t x D S a
     go (inr h) = absurd (omega (arith, ints, n.below, h u in_u))
-    go (inl w) = record { S1 = R1; mem = mem; a1 = a1; over = ex1; same_w = same_w; more_a = more_a; block = block }
+    go (inl w) = record { S1 = rest1; mem = mem; a1 = a1; over = ex1; same_w = same_w; more_a = more_a; block = block }
       where
         i : P
         i = w.0
@@ -152,44 +152,44 @@ best-new {P} {Form} {R} {sp} {Mem} {Reg} {func} {N} {A} {W} t k x S a e n = go (
         low_i : s i <ℤ pos 0
         low_i = (w.1).1
 
-        p : (R1 : List P) × Alike n.V (i ∷ R1)
+        p : (rest1 : List P) × Alike n.V (i ∷ rest1)
         p = front sp.dec i n.V in_i
 
-        R1 : List P
-        R1 = p.0
+        rest1 : List P
+        rest1 = p.0
 
-        mem : Flipped t R1
+        mem : Flipped t rest1
         mem = inr (record { V = n.V; s = s; u = i; cell = n.cell; below = low_i; rest = p.1 })
 
-        c : (a : P → ℤ) × ((j : ℕ) → D *ℤ sp.hom j x ≡ qs (sp.hom j) a R1)
-        c = k.coords R1 mem x
+        c : (a : P → ℤ) × ((j : ℕ) → D *ℤ sp.hom j x ≡ qs (sp.hom j) a rest1)
+        c = k.coords rest1 mem x
 
         a1 : P → ℤ
         a1 = c.0
 
-        ex1 : Expr sp x R1 D a1
+        ex1 : Expr sp x rest1 D a1
         ex1 = record { positive = k.scale_pos; is = c.1 }
 
-        out_i : In sp.dec i R1 → ⊥
+        out_i : In sp.dec i rest1 → ⊥
         out_i = distinct-out (distinct-alike dv (p.1))
 
-        same_w : excess (sp.val W) x S D a ≡ excess (sp.val W) x R1 D a1
-        same_w = cancel_nonzero_z D (excess (sp.val W) x S D a) (excess (sp.val W) x R1 D a1) (λ q. omega (arith, ints, k.scale_pos, q)) (cell-same t n.cell u i S R1 n.rest (p.1) x D D a a1 e.is (c.1))
+        same_w : excess (sp.val W) x S D a ≡ excess (sp.val W) x rest1 D a1
+        same_w = cancel_nonzero_z D (excess (sp.val W) x S D a) (excess (sp.val W) x rest1 D a1) (λ q. omega (arith, ints, k.scale_pos, q)) (cell-same t n.cell u i S rest1 n.rest (p.1) x D D a a1 e.is (c.1))
 
         g : P → ℤ
         g = upd sp.dec i (pos 0) a1
 
-        g_sum : (q : P → ℤ) → qs q g n.V ≡ qs q a1 R1
-        g_sum q = (p.1).same q g ∙ upd-cons sp.dec i (pos 0) a1 q R1 out_i ∙ ring ((q i) ∷ (qs q a1 R1) ∷ []) (num (pos 0) ⊗ var 0 ⊕ var 1) (var 1) tt
+        g_sum : (q : P → ℤ) → qs q g n.V ≡ qs q a1 rest1
+        g_sum q = (p.1).same q g ∙ upd-cons sp.dec i (pos 0) a1 q rest1 out_i ∙ ring ((q i) ∷ (qs q a1 rest1) ∷ []) (num (pos 0) ⊗ var 0 ⊕ var 1) (var 1) tt
 
         d : P → ℤ
         d v = f v -ℤ g v
 
-        d_sum : (q : P → ℤ) → qs q d n.V ≡ qs q a S -ℤ qs q a1 R1
+        d_sum : (q : P → ℤ) → qs q d n.V ≡ qs q a S -ℤ qs q a1 rest1
         d_sum q = qs-diff q f g n.V ∙ ap₂ (λ y z. y -ℤ z) (f_sum q) (g_sum q)
 
         d_flat : (j : ℕ) → qs (sp.hom j) d n.V ≡ pos 0
-        d_flat j = d_sum (sp.hom j) ∙ ring_by_two ((D *ℤ sp.hom j x) ∷ (qs (sp.hom j) a S) ∷ (qs (sp.hom j) a1 R1) ∷ []) (var 1 ⊖ var 2) (num (pos 0)) (neg (num (pos 1))) (var 0) (var 1) (num (pos 1)) (var 0) (var 2) tt (e.is j) (c.1 j)
+        d_flat j = d_sum (sp.hom j) ∙ ring_by_two ((D *ℤ sp.hom j x) ∷ (qs (sp.hom j) a S) ∷ (qs (sp.hom j) a1 rest1) ∷ []) (var 1 ⊖ var 2) (num (pos 0)) (neg (num (pos 1))) (var 0) (var 1) (num (pos 1)) (var 0) (var 2) tt (e.is j) (c.1 j)
 
         d_i : d i ≡ f i
         d_i = ap (λ y. f i -ℤ y) (upd-at sp.dec i (pos 0) a1) ∙ ring ((f i) ∷ []) (var 0 ⊖ num (pos 0)) (var 0) tt
@@ -200,32 +200,32 @@ best-new {P} {Form} {R} {sp} {Mem} {Reg} {func} {N} {A} {W} t k x S a e n = go (
         qa : ℤ
         qa = qs (sp.val A) s n.V
 
-        eq : s i *ℤ (qs (sp.val A) a S -ℤ qs (sp.val A) a1 R1) ≡ f i *ℤ qa
+        eq : s i *ℤ (qs (sp.val A) a S -ℤ qs (sp.val A) a1 rest1) ≡ f i *ℤ qa
         eq = ap (λ y. s i *ℤ y) (sym (d_sum (sp.val A))) ∙ parallel-sum t n.cell d d_flat i in_i (sp.val A) ∙ ap (λ y. y *ℤ qa) d_i
 
-        more : pos 0 ≤ℤ (qs (sp.val A) a S -ℤ qs (sp.val A) a1 R1)
-        more = by_lt_z (qs (sp.val A) a S -ℤ qs (sp.val A) a1 R1) (pos 0)
+        more : pos 0 ≤ℤ (qs (sp.val A) a S -ℤ qs (sp.val A) a1 rest1)
+        more = by_lt_z (qs (sp.val A) a S -ℤ qs (sp.val A) a1 rest1) (pos 0)
             (λ l. absurd (omega (
               arith,
               ints,
               eq,
-              mul_pos_z (neg_ℤ (s i)) (neg_ℤ (qs (sp.val A) a S -ℤ qs (sp.val A) a1 R1)) (omega (arith, ints, low_i)) (omega (arith, ints, l)),
-              ring ((s i) ∷ (qs (sp.val A) a S -ℤ qs (sp.val A) a1 R1) ∷ []) (neg (var 0) ⊗ neg (var 1)) (var 0 ⊗ var 1) tt,
+              mul_pos_z (neg_ℤ (s i)) (neg_ℤ (qs (sp.val A) a S -ℤ qs (sp.val A) a1 rest1)) (omega (arith, ints, low_i)) (omega (arith, ints, l)),
+              ring ((s i) ∷ (qs (sp.val A) a S -ℤ qs (sp.val A) a1 rest1) ∷ []) (neg (var 0) ⊗ neg (var 1)) (var 0 ⊗ var 1) tt,
               mul_nonneg_z (neg_ℤ (f i)) qa (omega (arith, ints, f_low)) (omega (arith, ints, cell-rise t n.cell)),
               ring ((f i) ∷ qa ∷ []) (neg (var 0) ⊗ var 1) (neg (var 0 ⊗ var 1)) tt,
             ))) (λ g. g)
 
-        more_a : excess (sp.val A) x S D a ≤ℤ excess (sp.val A) x R1 D a1
-        more_a = omega (arith, ints, more, excess-is (sp.val A) x S D a, excess-is (sp.val A) x R1 D a1)
+        more_a : excess (sp.val A) x S D a ≤ℤ excess (sp.val A) x rest1 D a1
+        more_a = omega (arith, ints, more, excess-is (sp.val A) x S D a, excess-is (sp.val A) x rest1 D a1)
 
-        block : (r z : P) (F : List P) → Alike R1 (r ∷ F) → (o : Opp sp r z F) → (In sp.dec z (r ∷ F) → ⊥) → rise (sp.val W) o ≡ pos 0 → a1 r <ℤ pos 0 → ⊥
+        block : (r z : P) (F : List P) → Alike rest1 (r ∷ F) → (o : Opp sp r z F) → (In sp.dec z (r ∷ F) → ⊥) → rise (sp.val W) o ≡ pos 0 → a1 r <ℤ pos 0 → ⊥
         block r z F al o out flat low = omega (arith, ints, back, mul_pos_z (neg_ℤ (s i)) (neg_ℤ (a1 r)) (omega (arith, ints, low_i)) (omega (arith, ints, low)), ring ((s i) ∷ (a1 r) ∷ []) (neg (var 0) ⊗ neg (var 1)) (neg (neg (var 0) ⊗ var 1)) tt, (w.1).2 r in_r low_r)
           where
             sr : Simp sp (r ∷ F)
             sr = flipped-simp t (r ∷ F) (flipped-alike t mem al)
 
             is_i : z ≡ i
-            is_i = elim (in-cases sp.dec z i R1 (in-alike (cell-zeros t n.cell i R1 (p.1) z o.c (upd sp.dec r (neg_ℤ o.m) o.bs) (expr-alike (opp-expr sr o) (alike-sym al)) (excess-alike (sp.val W) z o.c (upd sp.dec r (neg_ℤ o.m) o.bs) al ∙ opp-excess sr o (sp.val W) ∙ flat)) (p.1)))
+            is_i = elim (in-cases sp.dec z i rest1 (in-alike (cell-zeros t n.cell i rest1 (p.1) z o.c (upd sp.dec r (neg_ℤ o.m) o.bs) (expr-alike (opp-expr sr o) (alike-sym al)) (excess-alike (sp.val W) z o.c (upd sp.dec r (neg_ℤ o.m) o.bs) al ∙ opp-excess sr o (sp.val W) ∙ flat)) (p.1)))
                 [ inl q ↦ q | inr h ↦ absurd (out (in-alike h al)) ]
 
             all : Alike n.V (i ∷ r ∷ F)
