@@ -1,9 +1,8 @@
 -- What the marks, events and entries of the program mean.
 use Rattle.std.specs.Prelude.{ℕ, ℤ, cond, nat_eq, List, map, length, Vec}
-use Rattle.std.specs.declared.option.Option.{Option}
-use Rattle.std.specs.declared.option.Option.TheVariants.{Some, None}
 use Rattle.lt_model.specs.Flat.{rows}
 use Rattle.lt_model.specs.Atlases as model
+use Rattle.lt_model.specs.Atlases.{place_of}
 use Rattle.lt_core.specs.declared.marks.Mark.{Mark}
 use Rattle.lt_core.specs.declared.marks.Mark.TheVariants.{Open, Cross, Wide, Heavy}
 use Rattle.lt_core.specs.declared.marks.Entry.{Entry}
@@ -29,10 +28,6 @@ marks_of mss = map (λ ms. map mark_of ms.items) mss
 
 abbrev pub event_of : Event → model.Event
 event_of e = record { position = e.position; mark = mark_of e.mark; fresh = e.fresh }
-
-abbrev pub place_of : Option (ℕ × ℕ) → Option (ℕ × ℕ)
-place_of None = None
-place_of (Some p) = Some (p.0, p.1)
 
 abbrev pub entry_of : Entry → model.Entry
 entry_of e = record { triangulation = e.triangulation; cone = e.cone; origin = place_of e.origin }

@@ -1,9 +1,9 @@
 //! Whether the parts of an atlas are those at the beginning of another.
 
 ghost use Rattle.std.specs.Prelude.{◌≡◌, ◌<◌, ◌≤◌, ◌-◌, ℕ, IsTrue, ◌↔◌, length, get_or, map, sum, []};
-ghost use Rattle.lt_model.specs.Atlases.{cross, wide, heavy};
+ghost use Rattle.lt_model.specs.Atlases.{cross, wide, heavy, place_of};
 ghost use Rattle.lt_core.specs.Beginnings.{fresh_events, Stands, AreStanding, AllStand};
-ghost use Rattle.lt_core.specs.Marks.{mark_of, marks_of, event_of, entry_of, place_of, matrix_rows};
+ghost use Rattle.lt_core.specs.Marks.{mark_of, marks_of, event_of, entry_of, matrix_rows};
 
 use crate::marks::{Entry, Event, Mark};
 use lt_lattice::Matrix;

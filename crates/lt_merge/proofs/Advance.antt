@@ -3,7 +3,7 @@ use Rattle.std.proofs.Common.{◌≡◌, ◌≢◌, ℕ, ℤ, ◌+◌, ◌<◌, 
 use Rattle.std.proofs.lemmas.Bool.{cases_lt}
 use Rattle.lt_model.specs.Matrices.{identity, AreEquivalent}
 use Rattle.lt_model.specs.Walls.{IsAcross}
-use Rattle.lt_model.specs.Atlases.{Classes, open_mark, cross, Entry, Atlas, entry_at, facet_at, mark_at, place_at, cut, begin}
+use Rattle.lt_model.specs.Atlases.{Classes, open_mark, cross, Entry, Atlas, entry_at, facet_at, mark_at, place_at, cut, begin, IsBefore}
 use Rattle.lt_model.specs.RightAtlases.{AreClasses, IsCrossed, IsOpenAt}
 use Rattle.lt_model.specs.Logs.{IsKept}
 use Rattle.lt_core.specs.Reached.{IsOneEntry}
@@ -13,7 +13,7 @@ use Rattle.lt_core.proofs.Reaching.{classes_of_form}
 use Rattle.lt_core.proofs.Undo.{cut_now, mark_within}
 use Rattle.lt_crew.specs.Settled.{IsFirstKnown, IsSettled}
 use Rattle.lt_merge.specs.Images.{IsCrossedAt, IsImageOf}
-use Rattle.lt_merge.specs.Taken.{AreCovered, IsFrom, AreFrom, IsTakenOver, IsBefore}
+use Rattle.lt_merge.specs.Taken.{AreCovered, IsFrom, AreFrom, IsTakenOver}
 use Rattle.lt_merge.specs.Merged.{IsMergedTo}
 use Rattle.lt_merge.proofs.Covered.{classes, one_entry, first_covered, few_entries}
 use Rattle.lt_merge.proofs.Crossed.{carried_over}

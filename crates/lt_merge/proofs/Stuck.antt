@@ -5,10 +5,9 @@ use Rattle.std.specs.declared.option.Option.TheVariants.{Some, None}
 use Rattle.lt_model.specs.Principal.{IsPrincipal}
 use Rattle.lt_model.specs.Matrices.{identity, AreEquivalent}
 use Rattle.lt_model.specs.Walls.{IsAcross}
-use Rattle.lt_model.specs.Atlases.{Classes, Mark, open_mark, cross, wide, heavy, Atlas, entry_at, facets, mark_at}
+use Rattle.lt_model.specs.Atlases.{Classes, Mark, open_mark, cross, wide, heavy, Atlas, entry_at, facets, mark_at, place_of}
 use Rattle.lt_model.specs.RightAtlases.{AreClasses, HasOrigin, IsCrossed}
 use Rattle.lt_model.specs.Logs.{IsKept, IsUnlikeAll, IsNoCross}
-use Rattle.lt_core.specs.Marks.{place_of}
 use Rattle.lt_core.proofs.Equivalent.{carries_identity, carries_on}
 use Rattle.lt_core.proofs.Reaching.{one_principal}
 use Rattle.lt_merge.specs.Images.{IsCrossedAt, IsImageOf}

@@ -1,7 +1,7 @@
 -- What an atlas has taken over from another one.
 use Rattle.std.specs.Prelude.{ℕ, ◌<◌, ◌≡◌, ◌≢◌, ◌⊎◌, length}
 use Rattle.lt_model.specs.Matrices.{AreEquivalent}
-use Rattle.lt_model.specs.Atlases.{Classes, Atlas, open_mark, entry_at, mark_at}
+use Rattle.lt_model.specs.Atlases.{Classes, Atlas, open_mark, entry_at, mark_at, IsBefore}
 use Rattle.lt_core.specs.Reached.{IsOneEntry}
 use Rattle.lt_merge.specs.Images.{IsCrossedAt, IsImageOf}
 
@@ -25,10 +25,6 @@ pub record IsTakenOver (t : Atlas) (p : ℕ × ℕ) (a : Atlas) : Type 0 where
   pub place : ℕ × ℕ
   pub image : IsImageOf t p a place
   pub settled : mark_at a.marks place ≢ open_mark
-
--- facet p.1 of entry p.0 comes before facet q.1 of entry q.0
-abbrev pub IsBefore : ℕ × ℕ → ℕ × ℕ → Type 0
-IsBefore p q = (p.0 < q.0) ⊎ ((p.0 ≡ q.0) × (p.1 < q.1))
 
 -- the image of each crossed facet of t that comes before `end` isn't open
 abbrev pub AreTakenOver : Atlas → ℕ × ℕ → Atlas → Type 0

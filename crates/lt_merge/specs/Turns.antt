@@ -1,9 +1,8 @@
 -- What the events of a merged atlas are.
 use Rattle.std.specs.Prelude.{ℕ, ◌<◌, ◌≡◌, List, length, get_or}
-use Rattle.lt_model.specs.Atlases.{Atlas, place_at, event_at, cut}
+use Rattle.lt_model.specs.Atlases.{Atlas, place_at, event_at, cut, IsBefore}
 use Rattle.lt_crew.specs.Runs.{AreSettled}
 use Rattle.lt_merge.specs.Images.{IsCrossedAt, IsImageOf}
-use Rattle.lt_merge.specs.Taken.{IsBefore}
 
 -- at position x of the queue of a stands the image of the crossed facet p of t
 pub record StandsAtImage (t : Atlas) (p : ℕ × ℕ) (a : Atlas) (x : ℕ) : Type 0 where

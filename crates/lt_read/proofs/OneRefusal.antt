@@ -5,7 +5,7 @@ use Rattle.std.proofs.lemmas.List.Elements.{Contains-get_or}
 use Rattle.lt_model.specs.Cones.{IsRightCone}
 use Rattle.lt_model.specs.Flat.{rows, flat}
 use Rattle.lt_model.specs.Walls.{AreRegulators}
-use Rattle.lt_model.specs.Atlases.{Classes}
+use Rattle.lt_model.specs.Atlases.{Classes, IsBefore}
 use Rattle.lt_model.proofs.Flat.{flat-rows}
 use Rattle.lt_cone.specs.Faults.{IsFault}
 use Rattle.lt_cone.specs.declared.error.ConeFault.TheVariants.{Wrong}
@@ -16,7 +16,7 @@ use Rattle.lt_core.proofs.Reaching.{classes_of_form}
 use Rattle.lt_laws.proofs.RegulatorLists.{has_regulators}
 use Rattle.lt_match.specs.Matches.{IsFirstMatch}
 use Rattle.lt_grammar.specs.Texts.{Entry}
-use Rattle.lt_read.specs.Refused.{entry_at, at, HasOrigin, IsListed, HavePassed, IsCrossed, IsBefore, AreTwins, IsRefused}
+use Rattle.lt_read.specs.Refused.{entry_at, at, HasOrigin, IsListed, HavePassed, IsCrossed, AreTwins, IsRefused}
 use Rattle.lt_read.specs.declared.refusals.Refusal.{Refusal}
 use Rattle.lt_read.specs.declared.refusals.Refusal.TheVariants.{TooLong, Syntax, OtherDimension, NotPrincipal, BadOrigin, BadSimplices, BadCone, BadCross, Twin}
 use Rattle.lt_read.proofs.Passing.{listed_same}

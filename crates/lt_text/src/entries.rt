@@ -3,7 +3,8 @@
 ghost use Rattle.std.specs.Prelude.{map};
 ghost use Rattle.lt_io.specs.Causes.{HasCause};
 ghost use Rattle.lt_io.specs.Bytes.{Wrote};
-ghost use Rattle.lt_core.specs.Marks.{mark_of, entry_of, place_of};
+ghost use Rattle.lt_core.specs.Marks.{mark_of, entry_of};
+ghost use Rattle.lt_model.specs.Atlases.{place_of};
 ghost use Rattle.lt_text.specs.Gathered.{Gathered};
 ghost use Rattle.lt_text.specs.Texts.{from_part, origin_part, origin_line, entry_text};
 

@@ -1,7 +1,8 @@
 use Rattle.std.proofs.Common.{◌++◌, map, refl}
 use Rattle.std.proofs.lemmas.Result.{err_from_is_err_and}
 use Rattle.lt_model.specs.Negatives.{half}
-use Rattle.lt_core.specs.Marks.{mark_of, place_of}
+use Rattle.lt_core.specs.Marks.{mark_of}
+use Rattle.lt_model.specs.Atlases.{place_of}
 use Rattle.lt_text.specs.Texts.{origin_line, triangulation_text, cone_text, marks_text}
 use Rattle.lt_text.proofs.Composed.{front_of_all, gained_then, gained_then_front, two_fronts, two_parts}
 use Rattle.lt_text.proofs.entries.gather_entry.Goals as goal

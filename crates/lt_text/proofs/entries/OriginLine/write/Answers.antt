@@ -1,6 +1,6 @@
 use Rattle.std.proofs.Common.{pos, [], ◌∷◌}
 use Rattle.std.specs.Prelude.{codes}
-use Rattle.lt_core.specs.Marks.{place_of}
+use Rattle.lt_model.specs.Atlases.{place_of}
 use Rattle.lt_text.specs.Texts.{start, origin_part}
 use Rattle.std.proofs.lemmas.Result.{err_from_is_err_and}
 use Rattle.lt_io.proofs.Compose.{wrote_front, wrote_then, front_of_more}
