@@ -4,4 +4,5 @@ pub mod Filled
 pub mod Inverses
 pub mod Lengths
 pub mod Places
+pub mod Padded
 pub mod Products

@@ -1,9 +1,7 @@
-use Rattle.std.proofs.Common.{◌≡◌, drop, ◌++◌, length}
+use Rattle.std.proofs.Common.{◌≡◌, take}
 use Rattle.lt_model.specs.Vectors.{minus}
+use Rattle.lt_lattice.specs.Points.{filled}
 use Rattle.lt_lattice.proofs.points.differences.Given as goal
 
 abbrev pub invariant-loop-i : goal.invariant-loop-i
-invariant-loop-i l = record {
-  so_far : l.all.items ++ minus (drop l.i l.a) (drop l.i l.b) ≡ minus l.a l.b;
-  count : length l.all.items ≡ l.i;
-}
+invariant-loop-i l = l.all ≡ filled 6 (take l.i (minus l.a l.b))
