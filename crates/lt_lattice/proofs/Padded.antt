@@ -1,5 +1,5 @@
 -- Points as they are kept: lists with zeros behind them, their sums and differences.
-use Rattle.std.proofs.Common.{◌≡◌, ℕ, zero, suc, ℤ, pos, negsuc, ◌+ℤ◌, ◌-ℤ◌, ◌*ℤ◌, ◌<◌, ◌≤◌, ◌+◌, ◌^◌, refl, ap, sym, subst, arith, ◌∙◌, List, [], ◌∷◌, length, get_or, take, set, ◌++◌, add-one}
+use Rattle.std.proofs.Common.{◌≡◌, ℕ, zero, suc, ℤ, pos, negsuc, ◌+ℤ◌, ◌-ℤ◌, ◌*ℤ◌, ◌<◌, ◌≤◌, ◌+◌, ◌^◌, refl, ap, sym, subst, arith, ◌∙◌, List, [], ◌∷◌, length, get_or, take, set, add-one}
 use Rattle.std.proofs.lemmas.Int.{ints}
 use Rattle.std.proofs.lemmas.List.{length-take}
 use Rattle.std.specs.List.{All}
@@ -48,11 +48,6 @@ pub filled-scale : (m : ℕ) (c : ℤ) (xs : List ℤ) → scale c (filled m xs)
 filled-scale zero c xs = refl
 filled-scale (suc m) c [] = let e : c *ℤ pos 0 ≡ pos 0 = omega (arith, ints) in λ i. e i ∷ filled-scale m c [] i
 filled-scale (suc m) c (x ∷ xs) = ap (λ (ys : List ℤ). (c *ℤ x) ∷ ys) (filled-scale m c xs)
-
-pub set_filled : (m : ℕ) (xs : List ℤ) (v : ℤ) → length xs < m → set (filled m xs) (length xs) v ≡ filled m (xs ++ v ∷ [])
-set_filled zero xs v h = absurd (omega arith)
-set_filled (suc m) [] v h = refl
-set_filled (suc m) (x ∷ xs) v h = ap (λ (ys : List ℤ). x ∷ ys) (set_filled m xs v (omega arith))
 
 set_take_suc : (m : ℕ) (xs : List ℤ) (i : ℕ) → i < length xs → i < m → set (filled m (take i xs)) i (get_or xs i (pos 0)) ≡ filled m (take (suc i) xs)
 set_take_suc m [] i h k = absurd (omega arith)

@@ -3,7 +3,8 @@ use Rattle.std.proofs.Common.{◌≡◌, refl, sym, ◌∙◌, ap, arith, ℕ, z
 use Rattle.std.proofs.lemmas.Int.{ints}
 use Rattle.lt_model.specs.Padded.{lookup, tail_z}
 use Rattle.lt_model.proofs.Integers.{mul_zero_z, mul_add_z}
-use Rattle.lt_tableau.specs.Numbers.{sum_below, filled}
+use Rattle.lt_tableau.specs.Numbers.{sum_below}
+use Rattle.lt_lattice.specs.Points.{filled}
 
 pub sum_below_add : (n : ℕ) (f g : ℕ → ℤ) → sum_below n (λ (i : ℕ). f i +ℤ g i) ≡ sum_below n f +ℤ sum_below n g
 sum_below_add zero f g = refl

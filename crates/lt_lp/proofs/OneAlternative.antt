@@ -20,7 +20,8 @@ use Rattle.lt_model.proofs.Squares.{length-scale}
 use Rattle.lt_model.proofs.Excess.{dot-nil, plus-dot, scale-dot}
 use Rattle.lt_model.proofs.Walk.{length-combine}
 use Rattle.lt_model.proofs.Hadamard.{dot_nonneg}
-use Rattle.lt_tableau.specs.Numbers.{column_at, filled}
+use Rattle.lt_tableau.specs.Numbers.{column_at}
+use Rattle.lt_lattice.specs.Points.{filled}
 use Rattle.lt_tableau.proofs.Sums.{lookup_none, lookup_scale, lookup_combine, sum_same}
 use Rattle.lt_lp.specs.Positive.{IsPositiveAt}
 use Rattle.lt_lp.specs.Terms.{terms_from}
