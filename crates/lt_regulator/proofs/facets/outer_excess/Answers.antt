@@ -1,5 +1,8 @@
-use Rattle.std.proofs.Common.{◌≡◌, get_or, [], ◌∙◌, ap, suc, sym, subst, List, ℤ, length}
-use Rattle.std.proofs.lemmas.List.Elements.{Contains-get_or}
+use Rattle.std.proofs.Common.{arith, ◌*◌, ◌≡◌, get_or, [], ◌∙◌, ap, suc, sym, subst, List, ℤ, length}
+use Rattle.std.proofs.lemmas.List.Elements.{Contains-get_or, All-weaker}
+use Rattle.lt_model.specs.Limits.{span_limit}
+use Rattle.lt_lattice.specs.Ranges.{IsWithin}
+use Rattle.lt_triang.proofs.Gaps.{small_limit}
 use Rattle.lt_model.specs.Simplices.{IsExpression}
 use Rattle.lt_triang.specs.Kept.{dimension_of}
 use Rattle.lt_triang.proofs.Expressed.{dimension_is}
@@ -22,6 +25,13 @@ excess_of-requires-clause-points c =
 pub excess_of-requires-clause-near : goal.excess_of-requires-clause-near
 excess_of-requires-clause-near c =
     rw (c.vertices.ensures, c.class-simplex.ensures) (member_within c.dimension.result c.args.t.now c.args.class c.dimension.ensures c.requires.class)
+
+pub excess_of-requires-clause-near_too : goal.excess_of-requires-clause-near_too
+excess_of-requires-clause-near_too c =
+    let d = dimension_of c.args.t.now in
+    let l = small_limit d in
+    let more : (x : ℤ) → IsWithin (2 * span_limit d) x → IsWithin 800 x = λ x h. omega (arith, h, l) in
+    All-weaker (IsWithin (2 * span_limit d)) (IsWithin 800) more c.outer_vertex-vertex.result c.outer_vertex-vertex.ensures.near
 
 pub excess_of-requires-clause-numbers : goal.excess_of-requires-clause-numbers
 excess_of-requires-clause-numbers c =
