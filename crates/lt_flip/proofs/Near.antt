@@ -17,7 +17,8 @@ use Rattle.lt_lattice.specs.Ranges.{IsWithin}
 use Rattle.lt_triang.specs.Across.{IsOuterVertex}
 use Rattle.lt_triang.specs.Bounds.{AreNear}
 use Rattle.lt_triang.specs.Kept.{IsTriangulation}
-use Rattle.lt_triang.proofs.Gaps.{member_near, double_limit, length-minus}
+use Rattle.lt_triang.proofs.Gaps.{member_near, double_limit}
+use Rattle.lt_lattice.proofs.Padded.{length-minus}
 use Rattle.lt_triang.proofs.Least.{minus-plus}
 use Rattle.lt_triang.proofs.Shifts.{within_plus, within_more, count_without, contains_without}
 use Rattle.lt_triang.proofs.Made.{classes_of}

@@ -13,11 +13,6 @@ use Rattle.lt_lattice.proofs.Coordinates.{zeros_within}
 
 -- ---- zeros behind a list
 
-pub length-filled : (m : ℕ) (xs : List ℤ) → length (filled m xs) ≡ m
-length-filled zero xs = refl
-length-filled (suc m) [] = ap suc (length-filled m [])
-length-filled (suc m) (x ∷ xs) = ap suc (length-filled m xs)
-
 pub take-filled : (m : ℕ) (xs : List ℤ) → length xs ≤ m → take (length xs) (filled m xs) ≡ xs
 take-filled m [] h = refl
 take-filled zero (x ∷ xs) h = absurd (omega arith)
@@ -66,26 +61,20 @@ within-filled b (suc m) (x ∷ xs) h = All-cons (IsWithin b) x (filled m xs) (Al
 
 -- ---- sums and differences, place by place
 
-pub get-plus : (a b : List ℤ) (i : ℕ) → length a ≡ length b → i < length a → get_or (plus a b) i (pos 0) ≡ get_or a i (pos 0) +ℤ get_or b i (pos 0)
-get-plus [] b i h k = absurd (omega arith)
-get-plus (x ∷ a) [] i h k = absurd (omega arith)
-get-plus (x ∷ a) (y ∷ b) zero h k = refl
-get-plus (x ∷ a) (y ∷ b) (suc i) h k = get-plus a b i (omega arith) (omega arith)
+pub get_or-plus : (i : ℕ) (a b : List ℤ) → length a ≡ length b → i < length a → get_or (plus a b) i (pos 0) ≡ get_or a i (pos 0) +ℤ get_or b i (pos 0)
+get_or-plus i [] b h k = absurd (omega arith)
+get_or-plus i (x ∷ a) [] h k = absurd (omega arith)
+get_or-plus zero (x ∷ a) (y ∷ b) h k = refl
+get_or-plus (suc i) (x ∷ a) (y ∷ b) h k = get_or-plus i a b (omega arith) (omega arith)
 
-get-opposite : (b : List ℤ) (i : ℕ) → i < length b → get_or (scale (negsuc 0) b) i (pos 0) ≡ negsuc 0 *ℤ get_or b i (pos 0)
-get-opposite [] i k = absurd (omega arith)
-get-opposite (y ∷ b) zero k = refl
-get-opposite (y ∷ b) (suc i) k = get-opposite b i (omega arith)
+pub get_or-minus : (k : ℕ) (x y : List ℤ) → length x ≡ length y → k < length x → get_or (minus x y) k (pos 0) ≡ get_or x k (pos 0) -ℤ get_or y k (pos 0)
+get_or-minus k [] y l h = absurd (omega arith)
+get_or-minus k (a ∷ x) [] l h = absurd (omega arith)
+get_or-minus zero (a ∷ x) (b ∷ y) l h = omega (arith, ints)
+get_or-minus (suc k) (a ∷ x) (b ∷ y) l h = get_or-minus k x y (omega arith) (omega arith)
 
-pub get-minus : (a b : List ℤ) (i : ℕ) → length a ≡ length b → i < length a → get_or (minus a b) i (pos 0) ≡ get_or a i (pos 0) -ℤ get_or b i (pos 0)
-get-minus a b i h k =
-    let l : length (scale (negsuc 0) b) ≡ length b = length-scale (negsuc 0) b in
-    let p : get_or (minus a b) i (pos 0) ≡ get_or a i (pos 0) +ℤ get_or (scale (negsuc 0) b) i (pos 0) = get-plus a (scale (negsuc 0) b) i (omega arith) k in
-    let q = get-opposite b i (omega arith) in
-    omega (arith, ints, p, q)
-
-pub length-difference : (a b : List ℤ) → length a ≡ length b → length (minus a b) ≡ length a
-length-difference a b h = length-plus a (scale (negsuc 0) b) (h ∙ sym (length-scale (negsuc 0) b))
+pub length-minus : (a b : List ℤ) → length a ≡ length b → length (minus a b) ≡ length a
+length-minus a b h = length-plus a (scale (negsuc 0) b) (h ∙ sym (length-scale (negsuc 0) b))
 
 -- ---- points
 
@@ -156,4 +145,4 @@ difference_holds d e ys zs x y rs a b same h r =
     let n = length-scale (negsuc 0) y in
     let k : minus ys zs ≡ filled 6 (minus x y) =
     rw (a.kept, b.kept) (ap (plus (filled 6 x)) (filled-scale 6 (negsuc 0) y) ∙ filled-plus 6 x (scale (negsuc 0) y) (same ∙ sym n)) in
-    holds d rs (minus x y) (r ∙ k) (length-difference x y same ∙ a.count) h
+    holds d rs (minus x y) (r ∙ k) (length-minus x y same ∙ a.count) h

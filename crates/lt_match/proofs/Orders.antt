@@ -12,7 +12,7 @@ use Rattle.lt_geometry.specs.Carrying.{IsCandidate}
 use Rattle.lt_geometry.proofs.Candidates.{below}
 use Rattle.lt_lattice.specs.Ranges.{IsWithin}
 use Rattle.lt_triang.specs.Bounds.{AreWithin, AreNear}
-use Rattle.lt_triang.proofs.Gaps.{length-minus}
+use Rattle.lt_lattice.proofs.Padded.{length-minus}
 use Rattle.lt_match.specs.Images.{TakesTo}
 use Rattle.lt_match.specs.Matches.{in_order}
 

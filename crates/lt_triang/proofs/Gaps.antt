@@ -98,11 +98,3 @@ get_or-map_at f [] i x h e = absurd (omega arith)
 get_or-map_at f (y ∷ xs) zero x h e = ap f e
 get_or-map_at f (y ∷ xs) (suc i) x h e = get_or-map_at f xs i x (omega arith) e
 
-pub get_or-minus : (k : ℕ) (x y : List ℤ) → length x ≡ length y → k < length x → get_or (minus x y) k (pos 0) ≡ get_or x k (pos 0) -ℤ get_or y k (pos 0)
-get_or-minus k [] y l h = absurd (omega arith)
-get_or-minus k (a ∷ x) [] l h = absurd (omega arith)
-get_or-minus zero (a ∷ x) (b ∷ y) l h = omega (arith, ints)
-get_or-minus (suc k) (a ∷ x) (b ∷ y) l h = get_or-minus k x y (omega arith) (omega arith)
-
-pub length-minus : (x y : List ℤ) → length x ≡ length y → length (minus x y) ≡ length x
-length-minus x y l = length-plus x (scale (negsuc 0) y) (l ∙ sym (length-scale (negsuc 0) y))

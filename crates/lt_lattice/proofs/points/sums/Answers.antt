@@ -4,7 +4,7 @@ use Rattle.lt_model.specs.Vectors.{plus}
 use Rattle.lt_lattice.specs.Points.{filled}
 use Rattle.lt_lattice.proofs.Coordinates.{cast_sum}
 use Rattle.lt_model.proofs.Squares.{length-plus}
-use Rattle.lt_lattice.proofs.Padded.{set_take, filled_all, get-plus}
+use Rattle.lt_lattice.proofs.Padded.{set_take, filled_all, get_or-plus}
 use Rattle.lt_lattice.proofs.points.sums.Goals as goal
 
 pub loop-i-preserved : goal.loop-i-preserved
@@ -15,7 +15,7 @@ loop-i-preserved c =
     let same : length a ≡ length b = c.told-a ∙ sym c.told-b in
     let l = length-plus a b same in
     let e = cast_sum (get_or a i (pos 0)) (get_or b i (pos 0)) (c.requires.left i (pos 0) (omega (arith, c.told-a))) (c.requires.right i (pos 0) (omega (arith, c.told-b))) in
-    let g = get-plus a b i same (omega (arith, c.told-a)) in
+    let g = get_or-plus i a b same (omega (arith, c.told-a)) in
     let s = set_take 6 (plus a b) i (omega (arith, l, c.told-a)) (omega arith) in
     rw (e, c.loop-i.invariant) (rw g at s)
 

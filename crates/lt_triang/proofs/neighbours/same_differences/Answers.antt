@@ -6,7 +6,7 @@ use mir.Val.{SFits, of_z, to_z}
 use mir.Syntax.{w32}
 use Rattle.lt_model.specs.Vectors.{minus}
 use Rattle.lt_lattice.proofs.Coordinates.{cast_difference}
-use Rattle.lt_triang.proofs.Gaps.{get_or-minus, length-minus}
+use Rattle.lt_lattice.proofs.Padded.{length-minus, get_or-minus}
 use Rattle.lt_triang.proofs.neighbours.same_differences.Goals as goal
 
 -- the difference that the code makes before it is cut to its width

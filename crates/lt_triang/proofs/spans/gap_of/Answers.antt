@@ -2,7 +2,8 @@ use Rattle.std.proofs.Common.{arith, ◌≡◌, ◌<◌, map, get_or, length, ap
 use Rattle.std.proofs.lemmas.List.{length-map, get_or_default}
 use Rattle.lt_model.specs.Vectors.{minus}
 use Rattle.lt_lattice.proofs.Coordinates.{cast_difference}
-use Rattle.lt_triang.proofs.Gaps.{widest_more, widest_all, get_or-map_at, get_or-minus, length-minus}
+use Rattle.lt_triang.proofs.Gaps.{widest_more, widest_all, get_or-map_at}
+use Rattle.lt_lattice.proofs.Padded.{length-minus, get_or-minus}
 use Rattle.lt_triang.proofs.spans.gap_of.Goals as goal
 
 pub loop-k-preserved : goal.loop-k-preserved
