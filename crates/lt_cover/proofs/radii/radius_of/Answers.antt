@@ -29,7 +29,7 @@ weighted-requires-clause-few c =
 
 pub weighted-requires-clause-below : goal.weighted-requires-clause-below
 weighted-requires-clause-below c =
-    rw c.as_slice-2.ensures.value (All-tail (IsBelow (2 ^ 56)) c.combination-solution.result.den c.combination-solution.result.nums.items c.combination-solution.ensures.below)
+    rw c.as_slice-2.ensures.value (All-tail (IsBelow (2 ^ 56)) c.combination-solution.result.den c.combination-solution.result.nums c.combination-solution.ensures.below)
 
 pub weighted-requires-clause-within : goal.weighted-requires-clause-within
 weighted-requires-clause-within c = rw (c.as_slice-3.ensures.value ∙ c.values-values.ensures) (values_within (length c.args.class.now - 1) c.args.q.now c.args.class.now c.requires)
@@ -44,14 +44,14 @@ kept_den den nums h = let l = small_den den nums h in wide den (omega (arith, l)
 pub half-requires-clause-small : goal.half-requires-clause-small
 half-requires-clause-small c =
     let b = c.combination-solution.ensures.below in
-    rw (kept_den c.combination-solution.result.den c.combination-solution.result.nums.items b) (small_den c.combination-solution.result.den c.combination-solution.result.nums.items b)
+    rw (kept_den c.combination-solution.result.den c.combination-solution.result.nums b) (small_den c.combination-solution.result.den c.combination-solution.result.nums b)
 
 pub returns-clause-radius : goal.returns-clause-radius
 returns-clause-radius c =
     let q = c.args.q.now in
     let s = c.args.class.now in
     let den = c.combination-solution.result.den in
-    let nums = c.combination-solution.result.nums.items in
+    let nums = c.combination-solution.result.nums in
     let first = c.as_slice.ensures.value ∙ c.values-values.ensures in
     let again = c.as_slice-3.ensures.value ∙ c.values-values.ensures in
     let sum = rw (c.as_slice-2.ensures.value, again) at c.weighted.ensures in

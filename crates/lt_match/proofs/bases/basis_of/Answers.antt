@@ -47,8 +47,8 @@ den_below den nums h = All-head (λ x. nat_abs x < answer_limit) den nums h
 
 pub overflow_mul-found : goal.overflow_mul-found
 overflow_mul-found c =
-    let h : IsSolution c.columns_of-columns.result c.as_slice.result.now c.in-Ok.found.den c.in-Ok.found.nums.items = c.in-Ok.ensures.solution in
-    let below = den_below c.in-Ok.found.den c.in-Ok.found.nums.items h.below in
+    let h : IsSolution c.columns_of-columns.result c.as_slice.result.now c.in-Ok.found.den c.in-Ok.found.nums = c.in-Ok.ensures.solution in
+    let below = den_below c.in-Ok.found.den c.in-Ok.found.nums h.below in
     let fd : SFits w128 c.in-Ok.found.den = below_fits c.in-Ok.found.den (omega (arith, below)) in
     let ff : SFits w128 (pos (column_limit c.args.d)) = below_fits (pos (column_limit c.args.d)) (omega (arith, ints, small_column c.args.d)) in
     rw (factor c.args.d c.greatest_number-greatest.result c.from.result c.greatest_number-greatest.ensures c.from.ensures, to_z-of_z w128 c.in-Ok.found.den fd, to_z-of_z w128 (pos (column_limit c.args.d)) ff)
@@ -56,8 +56,8 @@ overflow_mul-found c =
 
 pub unreachable-requires : goal.unreachable-requires
 unreachable-requires c =
-    let h : IsColumnDependency (drop 1 c.args.points.now) c.in-Err.field-0.terms.items = rw c.columns_of-columns.ensures at c.in-Err.ensures.singular in
-    independent_columns (drop 1 c.args.points.now) c.in-Err.field-0.terms.items (rest_independent c.args.d c.args.points.now c.requires.low c.requires.simplex c.requires.first) h
+    let h : IsColumnDependency (drop 1 c.args.points.now) c.in-Err.field-0 = rw c.columns_of-columns.ensures at c.in-Err.ensures.singular in
+    independent_columns (drop 1 c.args.points.now) c.in-Err.field-0 (rest_independent c.args.d c.args.points.now c.requires.low c.requires.simplex c.requires.first) h
 
 -- one row more
 more : (d j : ℕ) (points : List (List ℤ)) (columns : List (List ℤ)) (now : List ℤ) (den : ℤ) (nums : List ℤ) (scales terms : List ℤ) → length points ≡ suc d → columns ≡ drop 1 points → now ≡ scale (pos (column_limit d)) (unit d j) →
@@ -71,7 +71,7 @@ pub loop-j-preserved : goal.loop-j-preserved
 loop-j-preserved c =
     let d = c.args.d in
     let den = c.in-Ok.found.den in
-    let nums = c.in-Ok.found.nums.items in
+    let nums = c.in-Ok.found.nums in
     let h : IsSolution c.columns_of-columns.result c.as_slice.result.now den nums = c.in-Ok.ensures.solution in
     let below = den_below den nums h.below in
     let fd : SFits w128 den = below_fits den (omega (arith, below)) in
