@@ -33,5 +33,5 @@ returns-else-leading_of-lt0 c =
 
 pub returns-in-Err : goal.returns-in-Err
 returns-in-Err c =
-    rw (c.with_last.ensures, c.as_slice-in-Err.ensures.value)
+    rw (c.with_last.ensures, c.as_slice-in-Err.ensures.value, c.flat.view_is)
     (from_flat c.args.d c.args.points.now c.index-points-d.result c.in-Err.flat c.requires.ascending c.index-points-d.is c.in-Err.ensures.flat)
