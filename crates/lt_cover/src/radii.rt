@@ -48,7 +48,7 @@ fn half(twice: i128, den: i128) -> Fraction
 fn combination(q: &Form, class: &Class, values: &[i64]) -> Solution
     requires measured { IsMeasured (length class.now - 1) q.now class.now }
     requires values { values.now ≡ map (form.value q.now) (drop 1 class.now) }
-    ensures { IsSolution (gram q.now (drop 1 class.now)) values.now result.den result.nums.items }
+    ensures { IsSolution (gram q.now (drop 1 class.now)) values.now result.den result.nums }
 {
     let columns = Columns::of(class.dimension(), products(q, class).as_slice());
     match solve(&columns, values) {

@@ -36,9 +36,9 @@ fn exchanged_class(d: usize, s: &[Point], w: &Point, e: &Expression, k: usize) -
     requires class { IsClass d s.now }
     requires dimension { length w.now ≡ d }
     requires near { AreNear (2 * span_limit d) (w.now ∷ s.now) }
-    requires expression { IsExpression s.now w.now e.now.scale e.now.coefficients.items }
+    requires expression { IsExpression s.now w.now e.now.scale e.now.coefficients }
     requires place { k < suc d }
-    requires positive { pos 0 <ℤ number_at k e.now.coefficients.items }
+    requires positive { pos 0 <ℤ number_at k e.now.coefficients }
     ensures { IsClassOf d (without (suc k) (w.now ∷ s.now)) result }
 {
     match Class::of(exchanged(s, w, k).as_slice()) {
@@ -49,8 +49,8 @@ fn exchanged_class(d: usize, s: &[Point], w: &Point, e: &Expression, k: usize) -
 
 /// Whether the coefficient at place `k` is positive.
 fn is_positive_at(e: &Expression, k: usize) -> bool
-    requires { k < length e.now.coefficients.items }
-    ensures { IsTrue result ↔ (pos 0 <ℤ number_at k e.now.coefficients.items) }
+    requires { k < length e.now.coefficients }
+    ensures { IsTrue result ↔ (pos 0 <ℤ number_at k e.now.coefficients) }
 {
     e.coefficients[k] > 0
 }
@@ -69,10 +69,10 @@ pub fn push_exchanged(
     requires class { IsClass d s.now }
     requires dimension { length w.now ≡ d }
     requires near { AreNear (2 * span_limit d) (w.now ∷ s.now) }
-    requires expression { IsExpression s.now w.now e.now.scale e.now.coefficients.items }
+    requires expression { IsExpression s.now w.now e.now.scale e.now.coefficients }
     ensures { IfOk result (λ _. (r : List (List ℤ)) →
         Contains all.new.items r ↔ (Contains all.old.items r ⊎ ((k : ℕ) ×
-        IsMadeFrom d s.now w.now e.now.coefficients.items k r))) }
+        IsMadeFrom d s.now w.now e.now.coefficients k r))) }
 {
     for k in 0..d + 1 {
         if is_positive_at(e, k) {

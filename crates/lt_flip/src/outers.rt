@@ -43,7 +43,7 @@ pub fn outer_of(t: &Triangulation, class: usize, normal: &Normal) -> Option<Oute
     requires class { class < length t.now }
     ensures { MatchOption result (HasNoFacet (dimension_of t.now) t.now (get_or t.now class []) normal.now)
         (λ o. IsOuterOf (dimension_of t.now) t.now
-        (get_or t.now class []) normal.now o.vertex o.expression.scale o.expression.coefficients.items) }
+        (get_or t.now class []) normal.now o.vertex o.expression.scale o.expression.coefficients) }
 {
     // It shows that the members lie near one another.
     let _dimension = t.dimension();

@@ -54,9 +54,9 @@ fn opposite(list: &[i128]) -> ArrayVec<i128, 8>
 
 /// The coefficients, and the scale with the other sign.
 fn with_scale(e: &Expression) -> ArrayVec<i128, 8>
-    requires few { length e.now.coefficients.items ≤ 7 }
-    requires below { AreBelow (2 ^ 59) (e.now.scale ∷ e.now.coefficients.items) }
-    ensures { result.items ≡ e.now.coefficients.items ++ neg_ℤ e.now.scale ∷ [] }
+    requires few { length e.now.coefficients ≤ 7 }
+    requires below { AreBelow (2 ^ 59) (e.now.scale ∷ e.now.coefficients) }
+    ensures { result.items ≡ e.now.coefficients ++ neg_ℤ e.now.scale ∷ [] }
 {
     with_last(e.coefficients.as_slice(), -e.scale)
 }

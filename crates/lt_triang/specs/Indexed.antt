@@ -53,7 +53,7 @@ pub record IsOuterIn (s next : List (List ℤ)) (p : List ℤ) (j : ℕ) (w : Li
 
 -- the outer vertex that is kept is that of the neighbour that is kept
 abbrev pub HasOuter : List (List (List ℤ)) → List (List ℤ) → Across → Type 0
-HasOuter t s a = IsOuterIn s (get_or t a.neighbour.class []) a.neighbour.shift a.neighbour.vertex a.outer.vertex a.outer.expression.scale a.outer.expression.coefficients.items
+HasOuter t s a = IsOuterIn s (get_or t a.neighbour.class []) a.neighbour.shift a.neighbour.vertex a.outer.vertex a.outer.expression.scale a.outer.expression.coefficients
 
 -- the first member across facet i of the class s, and its outer vertex
 pub record IsKept (d : ℕ) (t : List (List (List ℤ))) (s : List (List ℤ)) (i : ℕ) (a : Across) : Type 0 where

@@ -1,5 +1,6 @@
 pub mod Bounds
 pub mod Flat
+pub mod Expressions
 pub mod Across
 pub mod Kept
 pub mod Codes

@@ -48,6 +48,14 @@ pub struct Flat {
     pub terms: ArrayVec<i128, 7>,
 }
 
+impl Model for Flat {
+    ghost use Rattle.std.specs.Prelude.{List, ℤ};
+
+    ghost Value = { List ℤ };
+
+    ghost view = { λ f. f.terms.items };
+}
+
 /// The class of independent points, and the least of them.
 fn class_of(points: &[Point]) -> (Class, Point)
     requires low { 3 ≤ length points.now }
@@ -72,7 +80,7 @@ impl Class {
         requires dimension { AllOfDimension (length points.now - 1) points.now }
         requires near { AreNear (2 * span_limit (length points.now - 1)) points.now }
         ensures class { IfOk result (λ r. IsClassAt (length points.now - 1) points.now r.0 r.1) }
-        ensures flat { IfErr result (λ f. IsFlat (length points.now - 1) points.now f.terms.items) }
+        ensures flat { IfErr result (IsFlat (length points.now - 1) points.now) }
     {
         let origin = Point::origin((points.len() - 1) as u8);
         match solve(&columns(points), widened(origin.coords()).as_slice()) {

@@ -15,6 +15,7 @@ use crate::vertices::{columns, widened};
 use arrayvec::ArrayVec;
 use lt_lattice::Point;
 use lt_solve::{Columns, solve};
+use std::marker::Model;
 
 /// A positive multiple of a point as a sum of multiples of the vertices of a class: `scale` times the point is the sum of the
 /// vertices times the coefficients, and `scale` is the sum of the coefficients. The greatest common divisor of all is 1.
@@ -24,6 +25,14 @@ pub struct Expression {
     pub scale: i128,
     /// A number for each vertex, in their order, below 2^59 in absolute value.
     pub coefficients: ArrayVec<i128, 7>,
+}
+
+impl Model for Expression {
+    ghost use Rattle.lt_triang.specs.Expressions.{Expression as ExpressionModel};
+
+    ghost Value = { ExpressionModel };
+
+    ghost view = { λ e. record { scale = e.scale; coefficients = e.coefficients.items } };
 }
 
 /// The number in 64 bits.
@@ -51,8 +60,8 @@ impl Expression {
 
     /// The scale and then the coefficients, in 64 bits.
     pub(crate) fn numbers(&self) -> ArrayVec<i64, 8>
-        requires { AreBelow (2 ^ 59) (self.now.scale ∷ self.now.coefficients.items) }
-        ensures { result.items ≡ self.now.scale ∷ self.now.coefficients.items }
+        requires { AreBelow (2 ^ 59) (self.now.scale ∷ self.now.coefficients) }
+        ensures { result.items ≡ self.now.scale ∷ self.now.coefficients }
     {
         let mut all: ArrayVec<i64, 8> = ArrayVec::new();
         all.push(short(self.scale));
@@ -68,9 +77,9 @@ impl Class {
     pub fn expression(&self, x: &Point) -> Expression
         requires dimension { length self.now ≡ suc (length x.now) }
         requires near { All (IsWithin (2 * span_limit (length x.now))) x.now }
-        ensures expression { IsExpression self.now x.now result.scale result.coefficients.items }
-        ensures primitive { IsPrimitive (result.scale ∷ result.coefficients.items) }
-        ensures below { AreBelow (2 ^ 59) (result.scale ∷ result.coefficients.items) }
+        ensures expression { IsExpression self.now x.now result.scale result.coefficients }
+        ensures primitive { IsPrimitive (result.scale ∷ result.coefficients) }
+        ensures below { AreBelow (2 ^ 59) (result.scale ∷ result.coefficients) }
     {
         self.expression_by(&self.columns(), x)
     }
@@ -88,9 +97,9 @@ impl Class {
         requires columns { columns.now ≡ columns_of self.now }
         requires dimension { length self.now ≡ suc (length x.now) }
         requires near { All (IsWithin (2 * span_limit (length x.now))) x.now }
-        ensures expression { IsExpression self.now x.now result.scale result.coefficients.items }
-        ensures primitive { IsPrimitive (result.scale ∷ result.coefficients.items) }
-        ensures below { AreBelow (2 ^ 59) (result.scale ∷ result.coefficients.items) }
+        ensures expression { IsExpression self.now x.now result.scale result.coefficients }
+        ensures primitive { IsPrimitive (result.scale ∷ result.coefficients) }
+        ensures below { AreBelow (2 ^ 59) (result.scale ∷ result.coefficients) }
     {
         let _dimension = self.dimension();
         match solve(columns, widened(x.coords()).as_slice()) {

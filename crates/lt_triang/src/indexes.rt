@@ -118,7 +118,7 @@ fn facing_at(
         (get_or classes.now class []) vertex)
         (λ r. IsFacing d (get_or classes.now n []) i (get_or classes.now class []) r.0 vertex) }
     ensures outer { IfSome result (λ r. IsOuterIn (get_or classes.now n [])
-        (get_or classes.now class []) r.0 vertex r.1.vertex r.1.expression.scale r.1.expression.coefficients.items) }
+        (get_or classes.now class []) r.0 vertex r.1.vertex r.1.expression.scale r.1.expression.coefficients) }
 {
     if class == n && vertex == i {
         None

@@ -168,7 +168,7 @@ pub fn facing(
     requires near_too { AreNear (span_limit d) next.now }
     ensures facing { MatchOption result (IsNotFacing d s.now i next.now j) (λ r. IsFacing d s.now i next.now r.0 j) }
     ensures outer { IfSome result
-        (λ r. IsOuterIn s.now next.now r.0 j r.1.vertex r.1.expression.scale r.1.expression.coefficients.items) }
+        (λ r. IsOuterIn s.now next.now r.0 j r.1.vertex r.1.expression.scale r.1.expression.coefficients) }
 {
     let points = s.vertices();
     if !are_parallel(d, points, i, next, j) {

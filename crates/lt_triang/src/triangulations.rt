@@ -228,9 +228,9 @@ impl Triangulation {
         ensures dimension { length result.vertex ≡ dimension_of self.now }
         ensures near { All (IsWithin (2 * span_limit (dimension_of self.now))) result.vertex }
         ensures expression { IsExpression
-            (get_or self.now class []) result.vertex result.expression.scale result.expression.coefficients.items }
-        ensures primitive { IsPrimitive (result.expression.scale ∷ result.expression.coefficients.items) }
-        ensures below { AreBelow (2 ^ 59) (result.expression.scale ∷ result.expression.coefficients.items) }
+            (get_or self.now class []) result.vertex result.expression.scale result.expression.coefficients }
+        ensures primitive { IsPrimitive (result.expression.scale ∷ result.expression.coefficients) }
+        ensures below { AreBelow (2 ^ 59) (result.expression.scale ∷ result.expression.coefficients) }
     {
         let _dimension = self.dimension();
         self.across(class, facet).outer

@@ -41,7 +41,7 @@ impl Wall {
     /// Facet `vertex` of the class at place `class`, whose vertex outside has this expression, as it is kept. Places that don't fit are refused
     /// as memory is, since so long a list of classes has no room either.
     pub fn of(class: usize, vertex: usize, expression: &Expression) -> Result<Wall, Memory>
-        ensures { IfOk result (IsWallOf class vertex expression.now.scale expression.now.coefficients.items) }
+        ensures { IfOk result (IsWallOf class vertex expression.now.scale expression.now.coefficients) }
     {
         match (u32::try_from(class), u8::try_from(vertex)) {
             (Ok(class), Ok(vertex)) => Ok(Wall {
@@ -108,7 +108,7 @@ impl Wall {
 
     /// The expression, or None where its numbers aren't kept.
     pub fn expression(&self) -> Option<Expression>
-        ensures { IfSome result (λ e. self.now.numbers.items ≡ e.scale ∷ e.coefficients.items) }
+        ensures { IfSome result (λ e. self.now.numbers.items ≡ e.scale ∷ e.coefficients) }
     {
         let numbers = self.numbers.as_slice();
         if numbers.is_empty() {

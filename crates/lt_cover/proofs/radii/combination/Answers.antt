@@ -51,4 +51,4 @@ returns c =
 pub unreachable-requires : goal.unreachable-requires
 unreachable-requires c =
     let e = columns_are c.args.q.now c.args.class.now c.dimension.result c.as_slice.result.now c.of-columns.result c.requires.measured c.dimension.ensures.class (c.as_slice.ensures.value ∙ c.products.ensures) c.of-columns.ensures in
-    no_dependency (length c.args.class.now - 1) c.args.q.now c.args.class.now c.requires.measured c.in-Err.field-0.terms.items (rw e at c.in-Err.ensures.singular)
+    no_dependency (length c.args.class.now - 1) c.args.q.now c.args.class.now c.requires.measured c.in-Err.field-0 (rw e at c.in-Err.ensures.singular)

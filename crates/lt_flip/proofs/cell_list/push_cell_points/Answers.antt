@@ -37,7 +37,7 @@ cell_points-requires-clause-outside c =
     let k : IsFlippable (dimension_of t) c.requires.delaunay.0 t c.args.facet.now = record { two = omega (arith, d, c.dimension.ensures.low); delaunay = c.requires.delaunay.1; facet = c.requires.facet } in
     let s : c.vertices.result.now ≡ get_or t c.args.class [] = c.vertices.ensures ∙ c.class-simplex.ensures in
     let o = c.in-Some.outer in
-    λ h. outer_outside (dimension_of t) c.requires.delaunay.0 t (get_or t c.args.class []) c.args.facet.now o.vertex o.expression.scale o.expression.coefficients.items k (Contains-get_or t c.args.class [] c.requires.class) c.in-Some.ensures (subst (λ (l : List (List ℤ)). Contains l o.vertex) s h)
+    λ h. outer_outside (dimension_of t) c.requires.delaunay.0 t (get_or t c.args.class []) c.args.facet.now o.vertex o.expression.scale o.expression.coefficients k (Contains-get_or t c.args.class [] c.requires.class) c.in-Some.ensures (subst (λ (l : List (List ℤ)). Contains l o.vertex) s h)
 
 pub returns-in-Ok : goal.returns-in-Ok
 returns-in-Ok c =
@@ -47,7 +47,7 @@ returns-in-Ok c =
     let o = c.in-Some.outer in
     let m : IsMovedFrom (dimension_of t) (o.vertex ∷ c.vertices.result.now) c.cell_points.result = subst (λ (e : ℕ). IsMovedFrom e (o.vertex ∷ c.vertices.result.now) c.cell_points.result) (c.from-d.ensures ∙ d) c.cell_points.ensures in
     subst (λ (l : List (List (List ℤ))). AreCellPointsBelow (dimension_of t) t c.args.facet.now (suc c.args.class) l) (sym c.in-Ok.ensures.items)
-    (cell_more (dimension_of t) c.requires.delaunay.0 t c.args.facet.now c.args.class c.args.all.now.items o.vertex o.expression.scale o.expression.coefficients.items c.vertices.result.now c.cell_points.result k c.requires.class c.requires.from c.in-Some.ensures (c.vertices.ensures ∙ c.class-simplex.ensures) m)
+    (cell_more (dimension_of t) c.requires.delaunay.0 t c.args.facet.now c.args.class c.args.all.now.items o.vertex o.expression.scale o.expression.coefficients c.vertices.result.now c.cell_points.result k c.requires.class c.requires.from c.in-Some.ensures (c.vertices.ensures ∙ c.class-simplex.ensures) m)
 
 pub returns-in-None : goal.returns-in-None
 returns-in-None c = no_cell_more (dimension_of c.args.t.now) c.args.t.now c.args.facet.now c.args.class c.args.all.now.items c.requires.from c.in-None.ensures

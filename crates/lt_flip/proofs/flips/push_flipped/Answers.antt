@@ -37,9 +37,9 @@ returns-in-Some c =
     let d : c.dimension.result ≡ dimension_of t = dimension_is c.dimension.result t c.dimension.ensures in
     let k : IsFlippable (dimension_of t) c.requires.delaunay.0 t c.args.facet.now = record { two = omega (arith, d, c.dimension.ensures.low); delaunay = c.requires.delaunay.1; facet = c.requires.facet } in
     let o = c.in-Some.outer in
-    IfOk-weaker c.push_exchanged.result (λ x. (r : List (List ℤ)) → Contains c.push_exchanged.new.all.items r ↔ (Contains c.args.all.now.items r ⊎ ((k : ℕ) × IsMadeFrom c.from-d.result c.vertices.result.now o.vertex o.expression.coefficients.items k r)))
+    IfOk-weaker c.push_exchanged.result (λ x. (r : List (List ℤ)) → Contains c.push_exchanged.new.all.items r ↔ (Contains c.args.all.now.items r ⊎ ((k : ℕ) × IsMadeFrom c.from-d.result c.vertices.result.now o.vertex o.expression.coefficients k r)))
     (λ x. AreFlippedBelow (dimension_of t) t c.args.facet.now (suc c.args.class) c.push_exchanged.new.all.items)
-    (λ x is. made_there (dimension_of t) c.requires.delaunay.0 t c.args.facet.now c.args.class c.args.all.now.items c.push_exchanged.new.all.items o.vertex o.expression.scale o.expression.coefficients.items c.from-d.result c.vertices.result.now k c.requires.class c.requires.from c.in-Some.ensures (c.from-d.ensures ∙ d) (c.vertices.ensures ∙ c.class-simplex.ensures) is)
+    (λ x is. made_there (dimension_of t) c.requires.delaunay.0 t c.args.facet.now c.args.class c.args.all.now.items c.push_exchanged.new.all.items o.vertex o.expression.scale o.expression.coefficients c.from-d.result c.vertices.result.now k c.requires.class c.requires.from c.in-Some.ensures (c.from-d.ensures ∙ d) (c.vertices.ensures ∙ c.class-simplex.ensures) is)
     c.push_exchanged.ensures
 
 pub returns-in-Ok : goal.returns-in-Ok

@@ -45,19 +45,19 @@ below_fits x h = omega (arith, ints)
 den_below : (den : ℤ) (nums : List ℤ) → AreBelow answer_limit (den ∷ nums) → nat_abs den < answer_limit
 den_below den nums h = All-head (λ x. nat_abs x < answer_limit) den nums h
 
-pub overflow_mul-found : goal.overflow_mul-found
-overflow_mul-found c =
-    let h : IsSolution c.columns_of-columns.result c.as_slice.result.now c.in-Ok.found.den c.in-Ok.found.nums.items = c.in-Ok.ensures.solution in
-    let below = den_below c.in-Ok.found.den c.in-Ok.found.nums.items h.below in
-    let fd : SFits w128 c.in-Ok.found.den = below_fits c.in-Ok.found.den (omega (arith, below)) in
+pub overflow_mul-found-inside : goal.overflow_mul-found-inside
+overflow_mul-found-inside c =
+    let h : IsSolution c.columns_of-columns.result c.as_slice.result.now c.found.inside.den c.found.inside.nums.items = rw (← c.found.view_is) at c.in-Ok.ensures.solution in
+    let below = den_below c.found.inside.den c.found.inside.nums.items h.below in
+    let fd : SFits w128 c.found.inside.den = below_fits c.found.inside.den (omega (arith, below)) in
     let ff : SFits w128 (pos (column_limit c.args.d)) = below_fits (pos (column_limit c.args.d)) (omega (arith, ints, small_column c.args.d)) in
-    rw (factor c.args.d c.greatest_number-greatest.result c.from.result c.greatest_number-greatest.ensures c.from.ensures, to_z-of_z w128 c.in-Ok.found.den fd, to_z-of_z w128 (pos (column_limit c.args.d)) ff)
-    (below_fits (c.in-Ok.found.den *ℤ pos (column_limit c.args.d)) (scaled_small c.in-Ok.found.den (column_limit c.args.d) below (small_column c.args.d)))
+    rw (factor c.args.d c.greatest_number-greatest.result c.from.result c.greatest_number-greatest.ensures c.from.ensures, to_z-of_z w128 c.found.inside.den fd, to_z-of_z w128 (pos (column_limit c.args.d)) ff)
+    (below_fits (c.found.inside.den *ℤ pos (column_limit c.args.d)) (scaled_small c.found.inside.den (column_limit c.args.d) below (small_column c.args.d)))
 
 pub unreachable-requires : goal.unreachable-requires
 unreachable-requires c =
-    let h : IsColumnDependency (drop 1 c.args.points.now) c.in-Err.field-0.terms.items = rw c.columns_of-columns.ensures at c.in-Err.ensures.singular in
-    independent_columns (drop 1 c.args.points.now) c.in-Err.field-0.terms.items (rest_independent c.args.d c.args.points.now c.requires.low c.requires.simplex c.requires.first) h
+    let h : IsColumnDependency (drop 1 c.args.points.now) c.in-Err.field-0 = rw c.columns_of-columns.ensures at c.in-Err.ensures.singular in
+    independent_columns (drop 1 c.args.points.now) c.in-Err.field-0 (rest_independent c.args.d c.args.points.now c.requires.low c.requires.simplex c.requires.first) h
 
 -- one row more
 more : (d j : ℕ) (points : List (List ℤ)) (columns : List (List ℤ)) (now : List ℤ) (den : ℤ) (nums : List ℤ) (scales terms : List ℤ) → length points ≡ suc d → columns ≡ drop 1 points → now ≡ scale (pos (column_limit d)) (unit d j) →
@@ -70,9 +70,9 @@ more d j points columns now den nums scales terms lp ec en h b =
 pub loop-j-preserved : goal.loop-j-preserved
 loop-j-preserved c =
     let d = c.args.d in
-    let den = c.in-Ok.found.den in
-    let nums = c.in-Ok.found.nums.items in
-    let h : IsSolution c.columns_of-columns.result c.as_slice.result.now den nums = c.in-Ok.ensures.solution in
+    let den = c.found.inside.den in
+    let nums = c.found.inside.nums.items in
+    let h : IsSolution c.columns_of-columns.result c.as_slice.result.now den nums = rw (← c.found.view_is) at c.in-Ok.ensures.solution in
     let below = den_below den nums h.below in
     let fd : SFits w128 den = below_fits den (omega (arith, below)) in
     let ff : SFits w128 (pos (column_limit d)) = below_fits (pos (column_limit d)) (omega (arith, ints, small_column d)) in

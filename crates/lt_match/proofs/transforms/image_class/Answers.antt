@@ -38,8 +38,8 @@ unreachable-requires c =
     let k = images_simplex c.args.d u c.requires.inverse.0 c.args.s.now square c.requires.inverse.1 c.requires.class in
     let is : c.as_slice.result.now ≡ map (apply u) c.args.s.now = c.as_slice.ensures.value ∙ c.in-Some.ensures.value in
     let e : length c.as_slice.result.now - 1 ≡ c.args.d = less_one c.args.d (length c.as_slice.result.now) (ap length is ∙ k.count) in
-    let flat : IsFlat c.args.d (map (apply u) c.args.s.now) c.in-Err.field-0.terms.items = subst (λ (p : List (List ℤ)). IsFlat c.args.d p c.in-Err.field-0.terms.items) is (subst (λ (n : ℕ). IsFlat n c.as_slice.result.now c.in-Err.field-0.terms.items) e c.in-Err.ensures.flat) in
-    not_flat c.args.d (map (apply u) c.args.s.now) c.in-Err.field-0.terms.items (λ b lb sb nb. k.independent b lb sb nb) flat
+    let flat : IsFlat c.args.d (map (apply u) c.args.s.now) c.in-Err.field-0 = subst (λ (p : List (List ℤ)). IsFlat c.args.d p c.in-Err.field-0) is (subst (λ (n : ℕ). IsFlat n c.as_slice.result.now c.in-Err.field-0) e c.in-Err.ensures.flat) in
+    not_flat c.args.d (map (apply u) c.args.s.now) c.in-Err.field-0 (λ b lb sb nb. k.independent b lb sb nb) flat
 
 pub unreachable-requires-in-None : goal.unreachable-requires-in-None
 unreachable-requires-in-None c =

@@ -6,7 +6,7 @@ use Rattle.lt_principal.proofs.triangulations.class_with.Goals as goal
 pub unreachable-requires : goal.unreachable-requires
 unreachable-requires c =
     let e : length c.args.points.now - 1 ≡ c.args.d = omega (arith, c.requires.class.simplex.count) in
-    not_flat c.args.d c.args.points.now c.in-Err.field-0.terms.items c.requires.class (subst (λ (n : ℕ). IsFlat n c.args.points.now c.in-Err.field-0.terms.items) e c.in-Err.ensures.flat)
+    not_flat c.args.d c.args.points.now c.in-Err.field-0 c.requires.class (subst (λ (n : ℕ). IsFlat n c.args.points.now c.in-Err.field-0) e c.in-Err.ensures.flat)
 
 pub returns : goal.returns
 returns c =

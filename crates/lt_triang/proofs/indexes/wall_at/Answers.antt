@@ -22,4 +22,4 @@ pub returns-in_ok-wall-in-Some-facing_at : goal.returns-in_ok-wall-in-Some-facin
 returns-in_ok-wall-in-Some-facing_at c =
     let t = c.args.classes.now in
     let o = c.in-Some-facing_at.outer in
-    wall_made c.args.d t (get_or t c.args.n []) c.args.i c.args.class c.args.vertex c.in-Some-facing_at._shift o.vertex o.expression.scale o.expression.coefficients.items c.in_ok-wall-in-Some-facing_at.wall c.requires.members c.requires.class_too c.requires.place_too c.in-Some-facing_at.ensures.facing c.in-Some-facing_at.ensures.outer c.in_ok-wall-in-Some-facing_at.ensures
+    wall_made c.args.d t (get_or t c.args.n []) c.args.i c.args.class c.args.vertex c.in-Some-facing_at._shift o.vertex o.expression.scale o.expression.coefficients c.in_ok-wall-in-Some-facing_at.wall c.requires.members c.requires.class_too c.requires.place_too c.in-Some-facing_at.ensures.facing c.in-Some-facing_at.ensures.outer c.in_ok-wall-in-Some-facing_at.ensures

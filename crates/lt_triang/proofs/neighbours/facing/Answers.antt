@@ -15,6 +15,7 @@ use Rattle.lt_model.specs.Simplices.{IsClass}
 use Rattle.lt_model.specs.Limits.{span_limit}
 use Rattle.lt_triang.specs.Bounds.{AreNear}
 use Rattle.lt_triang.specs.Across.{HasFacet}
+use Rattle.lt_triang.specs.Expressions.{Expression}
 use Rattle.lt_triang.proofs.Gaps.{twice_limit, double_limit, within_from_near}
 use Rattle.lt_triang.proofs.Shifts.{count_without, facing_made, not_moved, not_beyond, within_more, shift_bounds, ShiftBounds}
 use Rattle.lt_triang.proofs.neighbours.facing.Goals as goal
@@ -95,10 +96,10 @@ returns-then-deref-i-lt0-clause-facing c =
     let moved = rw (sym (rw c.vertices-points.ensures at c.shift_of-shift.ensures)) at ((rw c.vertices-points.ensures at c.are_parallel.ensures).0 c.if-not-are_parallel.false) in
     let o = c.expression_by-expression in
     let e = o.ensures.expression in
-    let here : c.args.i < length o.result.coefficients.items = omega (arith, e.one_each, r.class.simplex.count, r.place) in
-    let small : nat_abs (number_at c.args.i o.result.coefficients.items) < 2 ^ 59 = All-tail (λ x. nat_abs x < 2 ^ 59) o.result.scale o.result.coefficients.items o.ensures.below c.args.i (pos 0) here in
-    let told = rw (c.deref.ensures.0, read _ small) at c.if-deref-i-lt0.true in
-    let beyond : IsBeyond s c.args.i c.vertex_moved-vertex.result = record { scale = o.result.scale; coefficients = o.result.coefficients.items; expression = e; negative = lt_z_yes (subst T (sym told) tt) } in
+    let here : c.args.i < length o.result.coefficients = omega (arith, e.one_each, r.class.simplex.count, r.place) in
+    let small : nat_abs (number_at c.args.i o.result.coefficients) < 2 ^ 59 = All-tail (λ x. nat_abs x < 2 ^ 59) o.result.scale o.result.coefficients o.ensures.below c.args.i (pos 0) here in
+    let told = rw (c.deref.ensures.0, ap (λ (e : Expression). e.coefficients) c.expression.view_is, read _ small) at c.if-deref-i-lt0.true in
+    let beyond : IsBeyond s c.args.i c.vertex_moved-vertex.result = record { scale = o.result.scale; coefficients = o.result.coefficients; expression = e; negative = lt_z_yes (subst T (sym told) tt) } in
     facing_made d s c.args.i c.args.next.now c.args.j c.shift_of-shift.result b.dimension (omega (arith, r.class_too.simplex.count, r.place_too)) moved (rw c.vertex_moved-vertex.ensures at beyond)
 
 pub returns-else-deref-i-lt0-clause-facing : goal.returns-else-deref-i-lt0-clause-facing
@@ -108,12 +109,12 @@ returns-else-deref-i-lt0-clause-facing c =
     let s = c.args.s.now in
     let o = c.expression_by-expression in
     let e = o.ensures.expression in
-    let here : c.args.i < length o.result.coefficients.items = omega (arith, e.one_each, r.class.simplex.count, r.place) in
-    let small : nat_abs (number_at c.args.i o.result.coefficients.items) < 2 ^ 59 = All-tail (λ x. nat_abs x < 2 ^ 59) o.result.scale o.result.coefficients.items o.ensures.below c.args.i (pos 0) here in
-    let told = rw (c.deref.ensures.0, read _ small) at c.if-deref-i-lt0.false in
-    let above : pos 0 ≤ℤ number_at c.args.i o.result.coefficients.items = lt_z_no (subst (λ (t : Bool). T (not t)) (sym told) tt) in
+    let here : c.args.i < length o.result.coefficients = omega (arith, e.one_each, r.class.simplex.count, r.place) in
+    let small : nat_abs (number_at c.args.i o.result.coefficients) < 2 ^ 59 = All-tail (λ x. nat_abs x < 2 ^ 59) o.result.scale o.result.coefficients o.ensures.below c.args.i (pos 0) here in
+    let told = rw (c.deref.ensures.0, ap (λ (e : Expression). e.coefficients) c.expression.view_is, read _ small) at c.if-deref-i-lt0.false in
+    let above : pos 0 ≤ℤ number_at c.args.i o.result.coefficients = lt_z_no (subst (λ (t : Bool). T (not t)) (sym told) tt) in
     not_beyond d s c.args.i c.args.next.now c.args.j c.shift_of-shift.result r.class_too.simplex.points
     (count_without d c.args.j c.args.next.now r.low r.class_too.simplex.count r.place_too) (omega (arith, r.class_too.simplex.count, r.place_too)) (rw c.vertices-points.ensures at c.shift_of-shift.ensures)
     (λ k.
-    let negative = negative_from d s c.args.i c.vertex_moved-vertex.result o.result.scale o.result.coefficients.items r.class e (rw (sym c.vertex_moved-vertex.ensures) at k) in
+    let negative = negative_from d s c.args.i c.vertex_moved-vertex.result o.result.scale o.result.coefficients r.class e (rw (sym c.vertex_moved-vertex.ensures) at k) in
     absurd (omega (arith, ints, negative, above)))

@@ -28,11 +28,11 @@ class_of-requires-clause-independent c =
 
 pub flat_terms-requires-clause-some : goal.flat_terms-requires-clause-some
 flat_terms-requires-clause-some c =
-    let h : IsColumnDependency c.columns.result c.in-Err.found.terms.items = c.in-Err.ensures.singular in
-    rw c.as_slice-in-Err.ensures.value (leading_primitive c.in-Err.found.terms.items h.primitive)
+    let h : IsColumnDependency c.columns.result c.in-Err.found = c.in-Err.ensures.singular in
+    rw (c.as_slice-in-Err.ensures.value, c.found.view_is) (leading_primitive c.in-Err.found h.primitive)
 
 pub returns-in-Err-clause-flat : goal.returns-in-Err-clause-flat
 returns-in-Err-clause-flat c =
-    let h : IsColumnDependency (columns_of c.args.points.now) c.in-Err.found.terms.items = rw c.columns.ensures at c.in-Err.ensures.singular in
-    of_flat (length c.args.points.now - 1) c.args.points.now c.in-Err.found.terms.items c.flat_terms.result.items (omega (arith, c.requires.low)) (omega (arith, c.requires.low)) c.requires.dimension h
-    (rw c.as_slice-in-Err.ensures.value at c.flat_terms.ensures.either) c.flat_terms.ensures.sign
+    let h : IsColumnDependency (columns_of c.args.points.now) c.in-Err.found = rw c.columns.ensures at c.in-Err.ensures.singular in
+    of_flat (length c.args.points.now - 1) c.args.points.now c.in-Err.found c.flat_terms.result.items (omega (arith, c.requires.low)) (omega (arith, c.requires.low)) c.requires.dimension h
+    (rw (c.as_slice-in-Err.ensures.value, c.found.view_is) at c.flat_terms.ensures.either) c.flat_terms.ensures.sign

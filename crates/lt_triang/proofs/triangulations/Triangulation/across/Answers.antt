@@ -42,10 +42,10 @@ returns c =
     elim c.match-expression.branch [
       | in-Some w ↦
           let x = c.match-expression.expression in
-          let e = kept_all (c.wall.ensures.scale ∷ c.wall.ensures.coefficients) c.wall.result.now.numbers.items x.scale x.coefficients.items c.wall.ensures.numbers (rw w.expression-is w.in-Some.ensures) in
+          let e = kept_all (c.wall.ensures.scale ∷ c.wall.ensures.coefficients) c.wall.result.now.numbers.items x.scale x.coefficients c.wall.ensures.numbers (rw w.expression-is w.in-Some.ensures) in
           record {
             first = n.ensures;
-            outer = outer_same (get_or t c.args.class []) (get_or t n.result.class []) n.result.shift n.result.vertex c.vertex_moved-vertex.result c.wall.ensures.scale c.wall.ensures.coefficients x.scale x.coefficients.items o e;
+            outer = outer_same (get_or t c.args.class []) (get_or t n.result.class []) n.result.shift n.result.vertex c.vertex_moved-vertex.result c.wall.ensures.scale c.wall.ensures.coefficients x.scale x.coefficients o e;
           }
       | in-None w ↦
           let x = c.match-expression.expression in
