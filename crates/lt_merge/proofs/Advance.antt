@@ -3,7 +3,8 @@ use Rattle.std.proofs.Common.{◌≡◌, ◌≢◌, ℕ, ℤ, ◌+◌, ◌<◌, 
 use Rattle.std.proofs.lemmas.Bool.{cases_lt}
 use Rattle.lt_model.specs.Matrices.{identity, AreEquivalent}
 use Rattle.lt_model.specs.Walls.{IsAcross}
-use Rattle.lt_model.specs.Atlases.{Classes, open_mark, cross, Entry, Atlas, entry_at, facet_at, mark_at, place_at, cut, begin, IsBefore}
+use Rattle.lt_model.specs.Atlases.{Classes, open_mark, cross, Entry, Atlas, entry_at, facet_at, mark_at, place_at, cut, begin}
+use Rattle.lt_model.specs.Order.{IsBefore}
 use Rattle.lt_model.specs.RightAtlases.{AreClasses, IsCrossed, IsOpenAt}
 use Rattle.lt_model.specs.Logs.{IsKept}
 use Rattle.lt_core.specs.Reached.{IsOneEntry}

@@ -2,7 +2,8 @@
 use Rattle.std.proofs.Common.{◌≡◌, ℕ, suc, ◌<◌, ◌+◌, ◌⊎◌, ◌∙◌, refl, arith, sym, ap, subst, inl, inr, List, [], ◌∷◌, ◌++◌, length, get_or, length-append}
 use Rattle.std.proofs.lemmas.Bool.{cases_lt}
 use Rattle.std.proofs.lemmas.List.{get_or_at, get_or_append_left}
-use Rattle.lt_model.specs.Atlases.{Atlas, Event, no_event, event_at, cut, IsBefore}
+use Rattle.lt_model.specs.Atlases.{Atlas, Event, no_event, event_at, cut}
+use Rattle.lt_model.specs.Order.{IsBefore}
 use Rattle.lt_model.specs.RightAtlases.{IsOpenAt}
 use Rattle.lt_core.proofs.Recording.{same_place}
 use Rattle.lt_core.proofs.Undo.{length_more, cut_now}

@@ -1,7 +1,8 @@
 -- What an atlas has taken over from another one.
 use Rattle.std.specs.Prelude.{ℕ, ◌<◌, ◌≡◌, ◌≢◌, ◌⊎◌, length}
 use Rattle.lt_model.specs.Matrices.{AreEquivalent}
-use Rattle.lt_model.specs.Atlases.{Classes, Atlas, open_mark, entry_at, mark_at, IsBefore}
+use Rattle.lt_model.specs.Atlases.{Classes, Atlas, open_mark, entry_at, mark_at}
+use Rattle.lt_model.specs.Order.{IsBefore}
 use Rattle.lt_core.specs.Reached.{IsOneEntry}
 use Rattle.lt_merge.specs.Images.{IsCrossedAt, IsImageOf}
 

@@ -1,6 +1,7 @@
 -- What the events of a merged atlas are.
 use Rattle.std.specs.Prelude.{ℕ, ◌<◌, ◌≡◌, List, length, get_or}
-use Rattle.lt_model.specs.Atlases.{Atlas, place_at, event_at, cut, IsBefore}
+use Rattle.lt_model.specs.Atlases.{Atlas, place_at, event_at, cut}
+use Rattle.lt_model.specs.Order.{IsBefore}
 use Rattle.lt_crew.specs.Runs.{AreSettled}
 use Rattle.lt_merge.specs.Images.{IsCrossedAt, IsImageOf}
 

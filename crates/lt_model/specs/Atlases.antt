@@ -1,5 +1,5 @@
 -- Atlases of triangulations: entries, marks of facets, the queue of open facets, and the log of what was recorded.
-use Rattle.std.specs.Prelude.{ℕ, zero, suc, ℤ, ◌+◌, ◌-◌, ◌<◌, ◌≡◌, ◌⊎◌, List, [], ◌∷◌, ◌++◌, map, length, get_or, take, set, cond, Bool, true, false}
+use Rattle.std.specs.Prelude.{ℕ, zero, suc, ℤ, ◌+◌, ◌-◌, List, [], ◌∷◌, ◌++◌, map, length, get_or, take, set, cond, Bool, true, false}
 use Rattle.std.specs.declared.option.Option.{Option}
 use Rattle.std.specs.declared.option.Option.TheVariants.{Some, None}
 use Rattle.lt_model.specs.Cones.{Verdict, wall, combination, Row, Cone}
@@ -52,10 +52,6 @@ mark_at ms p = get_or (get_or ms p.0 []) p.1 no_mark
 
 abbrev pub place_at : List (ℕ × ℕ) → ℕ → ℕ × ℕ
 place_at q p = get_or q p (0, 0)
-
--- facet p.1 of entry p.0 comes before facet q.1 of entry q.0
-abbrev pub IsBefore : ℕ × ℕ → ℕ × ℕ → Type 0
-IsBefore p q = (p.0 < q.0) ⊎ ((p.0 ≡ q.0) × (p.1 < q.1))
 
 -- the place that the program keeps, part by part
 abbrev pub place_of : Option (ℕ × ℕ) → Option (ℕ × ℕ)

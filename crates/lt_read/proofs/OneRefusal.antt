@@ -5,7 +5,8 @@ use Rattle.std.proofs.lemmas.List.Elements.{Contains-get_or}
 use Rattle.lt_model.specs.Cones.{IsRightCone}
 use Rattle.lt_model.specs.Flat.{rows, flat}
 use Rattle.lt_model.specs.Walls.{AreRegulators}
-use Rattle.lt_model.specs.Atlases.{Classes, IsBefore}
+use Rattle.lt_model.specs.Atlases.{Classes}
+use Rattle.lt_model.specs.Order.{IsBefore}
 use Rattle.lt_model.proofs.Flat.{flat-rows}
 use Rattle.lt_cone.specs.Faults.{IsFault}
 use Rattle.lt_cone.specs.declared.error.ConeFault.TheVariants.{Wrong}

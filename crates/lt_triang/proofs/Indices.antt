@@ -7,7 +7,8 @@ use Rattle.std.proofs.lemmas.List.Elements.{Contains-append_left, Contains-push,
 use Rattle.lt_model.specs.Simplices.{IsClass}
 use Rattle.lt_triang.specs.Across.{IsFacing, IsNotFacing, IsOpen}
 use Rattle.lt_triang.specs.Codes.{bucket_of}
-use Rattle.lt_triang.specs.Indexed.{buckets_of, IsEarlier, entry_at, IsIndexBelow, IsIndex, ArePlaces, AreNotFacing}
+use Rattle.lt_triang.specs.Indexed.{buckets_of, entry_at, IsIndexBelow, IsIndex, ArePlaces, AreNotFacing}
+use Rattle.lt_model.specs.Order.{IsBefore}
 use Rattle.lt_triang.specs.Kept.{AreClasses}
 use Rattle.lt_triang.specs.Walled.{IsWall, IsWallTo, IsFirstIn, IsFirstAnswer, IsAcrossAnswer}
 use Rattle.lt_triang.specs.declared.walls.Wall.{Wall}
@@ -16,24 +17,24 @@ use Rattle.lt_triang.proofs.Coded.{same_bucket}
 abbrev Facet : Type 0
 Facet = ℕ × ℕ
 
-earlier_next : (a : Facet) (m k : ℕ) → IsEarlier a (m, k) → IsEarlier a (m, suc k)
+earlier_next : (a : Facet) (m k : ℕ) → IsBefore a (m, k) → IsBefore a (m, suc k)
 earlier_next a m k (inl l) = inl l
 earlier_next a m k (inr (e, l)) = inr (e, omega (arith, l))
 
-earlier_self : (m k : ℕ) → IsEarlier (m, k) (m, suc k)
+earlier_self : (m k : ℕ) → IsBefore (m, k) (m, suc k)
 earlier_self m k = inr (refl, omega arith)
 
-split : (n j m k : ℕ) → IsEarlier (n, j) (m, suc k) → IsEarlier (n, j) (m, k) ⊎ ((n ≡ m) × (j ≡ k))
+split : (n j m k : ℕ) → IsBefore (n, j) (m, suc k) → IsBefore (n, j) (m, k) ⊎ ((n ≡ m) × (j ≡ k))
 split n j m k (inl l) = inl (inl l)
 split n j m k (inr (e, l)) = elim (cases_lt j k) [ inl q ↦ inl (inr (e, q)) | inr q ↦ inr (e, omega (arith, l, q)) ]
 
-not_both : (a b : Facet) → IsEarlier a b → IsEarlier b a → ⊥
+not_both : (a b : Facet) → IsBefore a b → IsBefore b a → ⊥
 not_both a b (inl l) (inl q) = absurd (omega (arith, l, q))
 not_both a b (inl l) (inr (e, q)) = absurd (omega (arith, l, e))
 not_both a b (inr (e, l)) (inl q) = absurd (omega (arith, q, e))
 not_both a b (inr (e, l)) (inr (f, q)) = absurd (omega (arith, l, q))
 
-not_itself : (a : Facet) → IsEarlier a a → ⊥
+not_itself : (a : Facet) → IsBefore a a → ⊥
 not_itself a h = not_both a a h h
 
 -- ---- how the index grows
@@ -56,21 +57,21 @@ last_or xs x q l =
     ]
 
 pub record IsGrown (d m k : ℕ) (xs ys : List Facet) : Type 0 where
-  pub before : (q : ℕ) → q < length ys → IsEarlier (get_or ys q (0, 0)) (m, suc k)
-  pub ascending : (p q : ℕ) → p < q → q < length ys → IsEarlier (get_or ys p (0, 0)) (get_or ys q (0, 0))
+  pub before : (q : ℕ) → q < length ys → IsBefore (get_or ys q (0, 0)) (m, suc k)
+  pub ascending : (p q : ℕ) → p < q → q < length ys → IsBefore (get_or ys p (0, 0)) (get_or ys q (0, 0))
   pub places : (q : ℕ) → q < length ys → (get_or ys q (0, 0)).1 < suc d
   pub kept : (x : Facet) → Contains xs x → Contains ys x
 
-pushed : (d m k : ℕ) (xs : List Facet) → k < suc d → ((q : ℕ) → q < length xs → IsEarlier (get_or xs q (0, 0)) (m, k)) → ((p q : ℕ) → p < q → q < length xs → IsEarlier (get_or xs p (0, 0)) (get_or xs q (0, 0))) →
+pushed : (d m k : ℕ) (xs : List Facet) → k < suc d → ((q : ℕ) → q < length xs → IsBefore (get_or xs q (0, 0)) (m, k)) → ((p q : ℕ) → p < q → q < length xs → IsBefore (get_or xs p (0, 0)) (get_or xs q (0, 0))) →
     ((q : ℕ) → q < length xs → (get_or xs q (0, 0)).1 < suc d) → IsGrown d m k xs (xs ++ (m, k) ∷ [])
 pushed d m k xs lk before ascending places = record {
   before = λ q l. elim (last_or xs (m, k) q l) [
-    | inl (h, e) ↦ subst (λ (a : Facet). IsEarlier a (m, suc k)) (sym e) (earlier_next (get_or xs q (0, 0)) m k (before q h))
-    | inr (h, e) ↦ subst (λ (a : Facet). IsEarlier a (m, suc k)) (sym e) (earlier_self m k)
+    | inl (h, e) ↦ subst (λ (a : Facet). IsBefore a (m, suc k)) (sym e) (earlier_next (get_or xs q (0, 0)) m k (before q h))
+    | inr (h, e) ↦ subst (λ (a : Facet). IsBefore a (m, suc k)) (sym e) (earlier_self m k)
   ];
   ascending = λ p q lt l. elim (last_or xs (m, k) q l) [
-    | inl (h, e) ↦ subst (λ (a : Facet). IsEarlier (get_or (xs ++ (m, k) ∷ []) p (0, 0)) a) (sym e) (subst (λ (a : Facet). IsEarlier a (get_or xs q (0, 0))) (sym (get_or_append_left xs ((m, k) ∷ []) (0, 0) p (omega (arith, lt, h)))) (ascending p q lt h))
-    | inr (h, e) ↦ subst (λ (a : Facet). IsEarlier (get_or (xs ++ (m, k) ∷ []) p (0, 0)) a) (sym e) (subst (λ (a : Facet). IsEarlier a (m, k)) (sym (get_or_append_left xs ((m, k) ∷ []) (0, 0) p (omega (arith, lt, h)))) (before p (omega (arith, lt, h))))
+    | inl (h, e) ↦ subst (λ (a : Facet). IsBefore (get_or (xs ++ (m, k) ∷ []) p (0, 0)) a) (sym e) (subst (λ (a : Facet). IsBefore a (get_or xs q (0, 0))) (sym (get_or_append_left xs ((m, k) ∷ []) (0, 0) p (omega (arith, lt, h)))) (ascending p q lt h))
+    | inr (h, e) ↦ subst (λ (a : Facet). IsBefore (get_or (xs ++ (m, k) ∷ []) p (0, 0)) a) (sym e) (subst (λ (a : Facet). IsBefore a (m, k)) (sym (get_or_append_left xs ((m, k) ∷ []) (0, 0) p (omega (arith, lt, h)))) (before p (omega (arith, lt, h))))
   ];
   places = λ q l. elim (last_or xs (m, k) q l) [
     | inl (h, e) ↦ subst (λ (a : Facet). a.1 < suc d) (sym e) (places q h)
@@ -79,7 +80,7 @@ pushed d m k xs lk before ascending places = record {
   kept = λ x c. Contains-append_left xs ((m, k) ∷ []) x c;
 }
 
-same : (d m k : ℕ) (xs : List Facet) → ((q : ℕ) → q < length xs → IsEarlier (get_or xs q (0, 0)) (m, k)) → ((p q : ℕ) → p < q → q < length xs → IsEarlier (get_or xs p (0, 0)) (get_or xs q (0, 0))) →
+same : (d m k : ℕ) (xs : List Facet) → ((q : ℕ) → q < length xs → IsBefore (get_or xs q (0, 0)) (m, k)) → ((p q : ℕ) → p < q → q < length xs → IsBefore (get_or xs p (0, 0)) (get_or xs q (0, 0))) →
     ((q : ℕ) → q < length xs → (get_or xs q (0, 0)).1 < suc d) → IsGrown d m k xs xs
 same d m k xs before ascending places = record {
   before = λ q l. earlier_next (get_or xs q (0, 0)) m k (before q l);
@@ -105,7 +106,7 @@ index_grows d t m k at bs bs' lk la ea e h =
       places = λ b q l. (grown d m k at t bs lk la h b).places q l;
     })
   where
-    found : (n j : ℕ) → j < suc d → IsEarlier (n, j) (m, k) ⊎ ((n ≡ m) × (j ≡ k)) → Contains (get_or (set bs at (get_or bs at [] ++ (m, k) ∷ [])) (bucket_of t n j) []) (n, j)
+    found : (n j : ℕ) → j < suc d → IsBefore (n, j) (m, k) ⊎ ((n ≡ m) × (j ≡ k)) → Contains (get_or (set bs at (get_or bs at [] ++ (m, k) ∷ [])) (bucket_of t n j) []) (n, j)
     found n j p (inl q) = (grown d m k at t bs lk la h (bucket_of t n j)).kept (n, j) (h.each n j p q)
     found n j p (inr (en, ej)) =
         let here : Contains (get_or (set bs at (get_or bs at [] ++ (m, k) ∷ [])) at []) (m, k) =
@@ -124,18 +125,18 @@ index_turns d t m k bs lk h = record {
   places = h.places;
 }
   where
-    wider : (n j : ℕ) → j < suc d → IsEarlier (n, j) (suc m, 0) → IsEarlier (n, j) (m, k)
+    wider : (n j : ℕ) → j < suc d → IsBefore (n, j) (suc m, 0) → IsBefore (n, j) (m, k)
     wider n j p (inl l) = elim (cases_lt n m) [ inl q ↦ inl q | inr q ↦ inr (omega (arith, l, q), omega (arith, p, lk)) ]
     wider n j p (inr (e, l)) = absurd (omega (arith, l))
 
-    past : (a : Facet) → IsEarlier a (m, k) → IsEarlier a (suc m, 0)
+    past : (a : Facet) → IsBefore a (m, k) → IsBefore a (suc m, 0)
     past a (inl l) = inl (omega (arith, l))
     past a (inr (e, l)) = inl (omega (arith, e))
 
 pub index_places : (d : ℕ) (t : List (List (List ℤ))) (bs : List (List Facet)) (b : ℕ) → IsIndex d t bs → ArePlaces d t (get_or bs b [])
 index_places d t bs b h q l = (inside (entry_at bs b q) (h.before b q l), h.places b q l)
   where
-    inside : (a : Facet) → IsEarlier a (length t, 0) → a.0 < length t
+    inside : (a : Facet) → IsBefore a (length t, 0) → a.0 < length t
     inside a (inl l) = l
     inside a (inr (e, l)) = absurd (omega (arith, l))
 
@@ -189,16 +190,16 @@ first_found d t bs n i w h x f = record {
     place : w.vertex < suc d
     place = subst (λ (a : Facet). a.1 < suc d) entry (index_places d t bs (bucket_of t n i) x f.at f.within).1
 
-    not : (m k : ℕ) → m < length t → k < suc d → IsEarlier (m, k) (w.class, w.vertex) → IsNotFacing d (get_or t n []) i (get_or t m []) k
+    not : (m k : ℕ) → m < length t → k < suc d → IsBefore (m, k) (w.class, w.vertex) → IsNotFacing d (get_or t n []) i (get_or t m []) k
     not m k lm lk e r g = at (stands d t bs n i m k r h x lm lk g)
       where
         at : Contains fs (m, k) → ⊥
         at (q, lq, c) =
             let c' : get_or fs q (0, 0) ≡ (m, k) = get_or_default fs q (0, 0) (m, k) lq ∙ c in
             elim (cases_order q f.at) [
-              | inl same ↦ not_itself (w.class, w.vertex) (subst (λ (a : Facet). IsEarlier a (w.class, w.vertex)) (sym c' ∙ ap (λ y. get_or fs y (0, 0)) same ∙ entry) e)
+              | inl same ↦ not_itself (w.class, w.vertex) (subst (λ (a : Facet). IsBefore a (w.class, w.vertex)) (sym c' ∙ ap (λ y. get_or fs y (0, 0)) same ∙ entry) e)
               | inr (inl less) ↦ f.before q less r (subst (λ (a : Facet). IsFacing d (get_or t n []) i (get_or t a.0 []) r a.1) (sym c') g)
-              | inr (inr more) ↦ not_both (m, k) (w.class, w.vertex) e (subst (λ (a : Facet). IsEarlier a (m, k)) entry (subst (λ (a : Facet). IsEarlier found a) c' (x.ascending (bucket_of t n i) f.at q more lq)))
+              | inr (inr more) ↦ not_both (m, k) (w.class, w.vertex) e (subst (λ (a : Facet). IsBefore a (m, k)) entry (subst (λ (a : Facet). IsBefore found a) c' (x.ascending (bucket_of t n i) f.at q more lq)))
             ]
 
 pub first_of_all : (d : ℕ) (t : List (List (List ℤ))) (bs : List (List Facet)) (n i : ℕ) → AreClasses d t → IsIndex d t bs → (r : Option Wall) →

@@ -5,12 +5,9 @@ use Rattle.lt_triang.specs.Across.{IsNotFacing, IsFirstAcross}
 use Rattle.lt_triang.specs.Codes.{bucket_of}
 use Rattle.lt_triang.specs.declared.neighbours.Across.{Across}
 use Rattle.lt_model.specs.Cones.{AreBelow}
+use Rattle.lt_model.specs.Order.{IsBefore}
 use Rattle.lt_model.specs.Simplices.{IsExpression}
 use Rattle.lt_model.specs.Vectors.{plus, IsPrimitive}
-
--- a facet, by the place of its class and the place of the vertex opposite to it, comes before another
-abbrev pub IsEarlier : ℕ × ℕ → ℕ × ℕ → Type 0
-IsEarlier a b = (a.0 < b.0) ⊎ ((a.0 ≡ b.0) × (a.1 < b.1))
 
 -- the facet at a place of a bucket
 abbrev pub entry_at : List (List (ℕ × ℕ)) → ℕ → ℕ → ℕ × ℕ
@@ -26,9 +23,9 @@ buckets_of vs = map (λ v. v.items) vs
 -- the facets that come before facet k of the class at place m, each in its bucket, ascending
 pub record IsIndexBelow (d : ℕ) (t : List (List (List ℤ))) (m k : ℕ) (bs : List (List (ℕ × ℕ))) : Type 0 where
   pub count : length bs ≡ 4 * length t
-  pub each : (n j : ℕ) → j < suc d → IsEarlier (n, j) (m, k) → Contains (get_or bs (bucket_of t n j) []) (n, j)
-  pub before : (b q : ℕ) → q < size_at bs b → IsEarlier (entry_at bs b q) (m, k)
-  pub ascending : (b p q : ℕ) → p < q → q < size_at bs b → IsEarlier (entry_at bs b p) (entry_at bs b q)
+  pub each : (n j : ℕ) → j < suc d → IsBefore (n, j) (m, k) → Contains (get_or bs (bucket_of t n j) []) (n, j)
+  pub before : (b q : ℕ) → q < size_at bs b → IsBefore (entry_at bs b q) (m, k)
+  pub ascending : (b p q : ℕ) → p < q → q < size_at bs b → IsBefore (entry_at bs b p) (entry_at bs b q)
   pub places : (b q : ℕ) → q < size_at bs b → (entry_at bs b q).1 < suc d
 
 -- the facets of all classes
