@@ -1,5 +1,5 @@
 -- An index of facets, and the first of them that lies across a facet.
-use Rattle.std.specs.Prelude.{ℕ, suc, ℤ, ◌<◌, ◌≡◌, ◌⊎◌, ◌^◌, ◌*◌, ◌∷◌, List, [], map, length, get_or, Vec}
+use Rattle.std.specs.Prelude.{ℕ, suc, ℤ, ◌<◌, ◌≡◌, ◌^◌, ◌*◌, ◌∷◌, List, [], map, length, get_or, Vec}
 use Rattle.std.specs.List.{Contains}
 use Rattle.lt_triang.specs.Across.{IsNotFacing, IsFirstAcross}
 use Rattle.lt_triang.specs.Codes.{bucket_of}
