@@ -97,4 +97,3 @@ pub get_or-map_at : {X : Type 0} (f : X → ℕ) (xs : List X) (i : ℕ) (x : X)
 get_or-map_at f [] i x h e = absurd (omega arith)
 get_or-map_at f (y ∷ xs) zero x h e = ap f e
 get_or-map_at f (y ∷ xs) (suc i) x h e = get_or-map_at f xs i x (omega arith) e
-
