@@ -7,7 +7,7 @@ use Rattle.lt_model.specs.Vectors.{scale, unit, combine}
 use Rattle.lt_model.proofs.Vectors.{scale-scale}
 use Rattle.lt_model.specs.Cones.{AreBelow}
 use Rattle.lt_model.proofs.Points.{count_rest}
-use Rattle.lt_solve.specs.Systems.{IsSolution, IsColumnDependency, column_limit, answer_limit}
+use Rattle.lt_solve.specs.Systems.{Solution, IsSolution, IsColumnDependency, column_limit, answer_limit}
 use Rattle.lt_match.proofs.Multiples.{IsBasisUpTo, rest_independent, independent_columns, basis_more, basis_done, small_column, scaled_great, scaled_small, multiple_small, length-multiple}
 use Rattle.lt_match.proofs.bases.basis_of.Goals as goal
 
@@ -47,12 +47,12 @@ den_below den nums h = All-head (λ x. nat_abs x < answer_limit) den nums h
 
 pub overflow_mul-found-inside : goal.overflow_mul-found-inside
 overflow_mul-found-inside c =
-    let h : IsSolution c.columns_of-columns.result c.as_slice.result.now c.found.inside.den c.found.inside.nums.items = rw (← c.found.view_is) at c.in-Ok.ensures.solution in
-    let below = den_below c.found.inside.den c.found.inside.nums.items h.below in
-    let fd : SFits w128 c.found.inside.den = below_fits c.found.inside.den (omega (arith, below)) in
+    let h : IsSolution c.columns_of-columns.result c.as_slice.result.now c.in-Ok.found.den c.in-Ok.found.nums = c.in-Ok.ensures.solution in
+    let below = den_below c.in-Ok.found.den c.in-Ok.found.nums h.below in
+    let fd : SFits w128 c.in-Ok.found.den = below_fits c.in-Ok.found.den (omega (arith, below)) in
     let ff : SFits w128 (pos (column_limit c.args.d)) = below_fits (pos (column_limit c.args.d)) (omega (arith, ints, small_column c.args.d)) in
-    rw (factor c.args.d c.greatest_number-greatest.result c.from.result c.greatest_number-greatest.ensures c.from.ensures, to_z-of_z w128 c.found.inside.den fd, to_z-of_z w128 (pos (column_limit c.args.d)) ff)
-    (below_fits (c.found.inside.den *ℤ pos (column_limit c.args.d)) (scaled_small c.found.inside.den (column_limit c.args.d) below (small_column c.args.d)))
+    rw (factor c.args.d c.greatest_number-greatest.result c.from.result c.greatest_number-greatest.ensures c.from.ensures, ap (λ (x : Solution). x.den) c.found.view_is, to_z-of_z w128 c.in-Ok.found.den fd, to_z-of_z w128 (pos (column_limit c.args.d)) ff)
+    (below_fits (c.in-Ok.found.den *ℤ pos (column_limit c.args.d)) (scaled_small c.in-Ok.found.den (column_limit c.args.d) below (small_column c.args.d)))
 
 pub unreachable-requires : goal.unreachable-requires
 unreachable-requires c =
@@ -70,18 +70,18 @@ more d j points columns now den nums scales terms lp ec en h b =
 pub loop-j-preserved : goal.loop-j-preserved
 loop-j-preserved c =
     let d = c.args.d in
-    let den = c.found.inside.den in
-    let nums = c.found.inside.nums.items in
-    let h : IsSolution c.columns_of-columns.result c.as_slice.result.now den nums = rw (← c.found.view_is) at c.in-Ok.ensures.solution in
+    let den = c.in-Ok.found.den in
+    let nums = c.in-Ok.found.nums in
+    let h : IsSolution c.columns_of-columns.result c.as_slice.result.now den nums = c.in-Ok.ensures.solution in
     let below = den_below den nums h.below in
     let fd : SFits w128 den = below_fits den (omega (arith, below)) in
     let ff : SFits w128 (pos (column_limit d)) = below_fits (pos (column_limit d)) (omega (arith, ints, small_column d)) in
     let fp : SFits w128 (den *ℤ pos (column_limit d)) = below_fits (den *ℤ pos (column_limit d)) (scaled_small den (column_limit d) below (small_column d)) in
     let x = given d c.loop-j.j c.greatest_number-greatest.result c.multiple.result.items c.as_slice.result.now c.greatest_number-greatest.ensures c.multiple.ensures c.as_slice.ensures.value in
     let scales : c.push.new.self.items ≡ c.loop-j.scales.items ++ (den *ℤ pos (column_limit d)) ∷ [] =
-    rw (factor d c.greatest_number-greatest.result c.from.result c.greatest_number-greatest.ensures c.from.ensures, to_z-of_z w128 den fd, to_z-of_z w128 (pos (column_limit d)) ff, to_z-of_z w128 (den *ℤ pos (column_limit d)) fp) at c.push.ensures.items
+    rw (factor d c.greatest_number-greatest.result c.from.result c.greatest_number-greatest.ensures c.from.ensures, ap (λ (x : Solution). x.den) c.found.view_is, to_z-of_z w128 den fd, to_z-of_z w128 (pos (column_limit d)) ff, to_z-of_z w128 (den *ℤ pos (column_limit d)) fp) at c.push.ensures.items
     in
-    let terms : c.push_numbers.new.all.items ≡ c.loop-j.terms.items ++ nums = c.push_numbers.ensures ∙ ap (λ (l : List ℤ). c.loop-j.terms.items ++ l) c.as_slice-in-Ok.ensures.value in
+    let terms : c.push_numbers.new.all.items ≡ c.loop-j.terms.items ++ nums = c.push_numbers.ensures ∙ ap (λ (l : List ℤ). c.loop-j.terms.items ++ l) (c.as_slice-in-Ok.ensures.value ∙ ap (λ (x : Solution). x.nums) c.found.view_is) in
     rw (scales, terms) (more d c.loop-j.j c.args.points.now c.columns_of-columns.result c.as_slice.result.now den nums c.loop-j.scales.items c.loop-j.terms.items c.requires.simplex.count c.columns_of-columns.ensures x h c.loop-j.invariant)
 
 pub returns : goal.returns

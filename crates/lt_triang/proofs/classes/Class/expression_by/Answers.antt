@@ -4,7 +4,7 @@ use Rattle.std.proofs.lemmas.List.Elements.{All-head, All-tail}
 use mir.Syntax.{w128}
 use Rattle.lt_model.specs.Vectors.{total}
 use Rattle.lt_model.specs.Simplices.{IsClass, IsExpression}
-use Rattle.lt_solve.specs.Systems.{IsSolution, IsColumnDependency, answer_limit}
+use Rattle.lt_solve.specs.Systems.{Solution, IsSolution, IsColumnDependency, answer_limit}
 use Rattle.lt_triang.proofs.Beyond.{expression_of, no_dependency}
 use Rattle.lt_triang.proofs.Columned.{columns-class}
 use Rattle.lt_triang.proofs.Expressed.{primitive_more, below_all}
@@ -43,21 +43,21 @@ found d s columns x den nums sum k l e h t small =
 
 pub total_of-requires-clause-below : goal.total_of-requires-clause-below
 total_of-requires-clause-below c =
-    let h : IsSolution c.args.columns.now c.as_slice.result.now c.found.inside.den c.found.inside.nums.items = rw (← c.found.view_is) at c.in-Ok.ensures.solution in
-    rw c.as_slice-nums.ensures.value (All-tail (λ x. nat_abs x < answer_limit) c.found.inside.den c.found.inside.nums.items h.below)
+    let h : IsSolution c.args.columns.now c.as_slice.result.now c.in-Ok.found.den c.in-Ok.found.nums = c.in-Ok.ensures.solution in
+    rw (c.as_slice-nums.ensures.value, ap (λ (x : Solution). x.nums) c.found.view_is) (All-tail (λ x. nat_abs x < answer_limit) c.in-Ok.found.den c.in-Ok.found.nums h.below)
 
-at_found : (c : After-total_of) → IsFound c.args.self.now c.args.x.now c.found.inside.den c.found.inside.nums.items c.total_of.result
+at_found : (c : After-total_of) → IsFound c.args.self.now c.args.x.now c.in-Ok.found.den c.in-Ok.found.nums c.total_of.result
 at_found c =
     let e = c.requires.columns ∙ columns-class c.dimension-dimension.result c.args.self.now c.dimension-dimension.ensures.class in
     let x = c.as_slice.ensures.value ∙ c.widened.ensures ∙ c.coords.ensures.value in
-    let h : IsSolution c.args.columns.now c.as_slice.result.now c.found.inside.den c.found.inside.nums.items = rw (← c.found.view_is) at c.in-Ok.ensures.solution in
-    let n : c.as_slice-nums.result.now ≡ c.found.inside.nums.items = c.as_slice-nums.ensures.value in
-    found c.dimension-dimension.result c.args.self.now c.args.columns.now c.args.x.now c.found.inside.den c.found.inside.nums.items c.total_of.result c.dimension-dimension.ensures.class c.requires.dimension e (rw x at h) (c.total_of.ensures.value ∙ ap total n) c.total_of.ensures.small
+    let h : IsSolution c.args.columns.now c.as_slice.result.now c.in-Ok.found.den c.in-Ok.found.nums = c.in-Ok.ensures.solution in
+    let n : c.as_slice-nums.result.now ≡ c.in-Ok.found.nums = c.as_slice-nums.ensures.value ∙ ap (λ (x : Solution). x.nums) c.found.view_is in
+    found c.dimension-dimension.result c.args.self.now c.args.columns.now c.args.x.now c.in-Ok.found.den c.in-Ok.found.nums c.total_of.result c.dimension-dimension.ensures.class c.requires.dimension e (rw x at h) (c.total_of.ensures.value ∙ ap total n) c.total_of.ensures.small
 
 pub overflow_sub-found-inside : goal.overflow_sub-found-inside
 overflow_sub-found-inside c =
     let f = at_found c in
-    rw (to_z-of_z w128 c.found.inside.den f.fits_den, to_z-of_z w128 c.total_of.result f.fits_total) f.fits_first
+    rw (ap (λ (x : Solution). x.den) c.found.view_is, to_z-of_z w128 c.in-Ok.found.den f.fits_den, to_z-of_z w128 c.total_of.result f.fits_total) f.fits_first
 
 pub unreachable-requires : goal.unreachable-requires
 unreachable-requires c =
@@ -69,13 +69,13 @@ pub returns : goal.returns
 returns c =
     let e = c.requires.columns ∙ columns-class c.dimension-dimension.result c.args.self.now c.dimension-dimension.ensures.class in
     let x = c.as_slice.ensures.value ∙ c.widened.ensures ∙ c.coords.ensures.value in
-    let h : IsSolution c.args.columns.now c.as_slice.result.now c.found.inside.den c.found.inside.nums.items = rw (← c.found.view_is) at c.in-Ok.ensures.solution in
-    let n : c.as_slice-nums.result.now ≡ c.found.inside.nums.items = c.as_slice-nums.ensures.value in
-    let t : c.total_of.result ≡ total c.found.inside.nums.items = c.total_of.ensures.value ∙ ap total n in
-    let f : IsFound c.args.self.now c.args.x.now c.found.inside.den c.found.inside.nums.items c.total_of.result = found c.dimension-dimension.result c.args.self.now c.args.columns.now c.args.x.now c.found.inside.den c.found.inside.nums.items c.total_of.result c.dimension-dimension.ensures.class c.requires.dimension e (rw x at h) t c.total_of.ensures.small in
-    let w : c.with_first.result.items ≡ (c.found.inside.den -ℤ c.total_of.result) ∷ c.found.inside.nums.items = rw (to_z-of_z w128 c.found.inside.den f.fits_den, to_z-of_z w128 c.total_of.result f.fits_total, to_z-of_z w128 (c.found.inside.den -ℤ c.total_of.result) f.fits_first, n) at c.with_first.ensures in
-    rw (to_z-of_z w128 c.found.inside.den f.fits_den, w) (record {
+    let h : IsSolution c.args.columns.now c.as_slice.result.now c.in-Ok.found.den c.in-Ok.found.nums = c.in-Ok.ensures.solution in
+    let n : c.as_slice-nums.result.now ≡ c.in-Ok.found.nums = c.as_slice-nums.ensures.value ∙ ap (λ (x : Solution). x.nums) c.found.view_is in
+    let t : c.total_of.result ≡ total c.in-Ok.found.nums = c.total_of.ensures.value ∙ ap total n in
+    let f : IsFound c.args.self.now c.args.x.now c.in-Ok.found.den c.in-Ok.found.nums c.total_of.result = found c.dimension-dimension.result c.args.self.now c.args.columns.now c.args.x.now c.in-Ok.found.den c.in-Ok.found.nums c.total_of.result c.dimension-dimension.ensures.class c.requires.dimension e (rw x at h) t c.total_of.ensures.small in
+    let w : c.with_first.result.items ≡ (c.in-Ok.found.den -ℤ c.total_of.result) ∷ c.in-Ok.found.nums = rw (ap (λ (x : Solution). x.den) c.found.view_is, to_z-of_z w128 c.in-Ok.found.den f.fits_den, to_z-of_z w128 c.total_of.result f.fits_total, to_z-of_z w128 (c.in-Ok.found.den -ℤ c.total_of.result) f.fits_first, n) at c.with_first.ensures in
+    rw (ap (λ (x : Solution). x.den) c.found.view_is, to_z-of_z w128 c.in-Ok.found.den f.fits_den, w) (record {
       expression = f.expression;
-      primitive = primitive_more c.found.inside.den (c.found.inside.den -ℤ c.total_of.result) c.found.inside.nums.items h.primitive;
-      below = rw t (below_all c.found.inside.den c.found.inside.nums.items h.below (rw t at c.total_of.ensures.small));
+      primitive = primitive_more c.in-Ok.found.den (c.in-Ok.found.den -ℤ c.total_of.result) c.in-Ok.found.nums h.primitive;
+      below = rw t (below_all c.in-Ok.found.den c.in-Ok.found.nums h.below (rw t at c.total_of.ensures.small));
     })
