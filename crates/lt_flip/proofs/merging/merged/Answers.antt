@@ -13,7 +13,7 @@ pub loop-next-preserved : goal.loop-next-preserved
 loop-next-preserved c =
     let xs = classes_at c.args.t.now c.args.kept.now in
     let pushed : c.copy.result ≡ get_or c.args.made.now c.loop-next.next [] = c.copy.ensures ∙ c.index-made-next.is ∙ get_or_default c.args.made.now c.loop-next.next c.index-made-next.result [] c.loop-next-test.true in
-    subst (λ (l : List (List (List ℤ))). AreMergedBelow xs c.args.made.now c.in_ok-from.from (c.loop-next.next + 1) l) (sym c.in_ok-push.ensures.items)
+    subst (λ (l : List (List (List ℤ))). AreMergedBelow xs c.args.made.now c.in_ok-from.from (c.loop-next.next + 1) l) (sym {A = List (List (List ℤ))} c.in_ok-push.ensures.items)
     (subst (λ (s : List (List ℤ)). AreMergedBelow xs c.args.made.now c.in_ok-from.from (c.loop-next.next + 1) (c.push_below.new.all.items ++ s ∷ [])) (sym pushed) c.in_ok-from.ensures)
 
 pub loop-place-init : goal.loop-place-init
@@ -26,7 +26,7 @@ loop-place-preserved c =
     let xs = classes_at c.args.t.now c.args.kept.now in
     let k = length c.args.made.now in
     let pushed : c.copy-in-loop-place.result ≡ get_or xs c.loop-place.place [] = c.copy-in-loop-place.ensures ∙ c.class.ensures ∙ class_at c.args.t.now c.args.kept.now c.loop-place.place c.loop-place-test.true in
-    subst (λ (l : List (List (List ℤ))). AreMergedBelow xs c.args.made.now (c.loop-place.place + 1) k l) (sym c.in_ok-push-2.ensures.items)
+    subst (λ (l : List (List (List ℤ))). AreMergedBelow xs c.args.made.now (c.loop-place.place + 1) k l) (sym {A = List (List (List ℤ))} c.in_ok-push-2.ensures.items)
     (subst (λ (s : List (List ℤ)). AreMergedBelow xs c.args.made.now (c.loop-place.place + 1) k (c.loop-place.all.items ++ s ∷ [])) (sym pushed)
     (first_more xs c.args.made.now c.loop-place.place k c.loop-place.all.items c.requires.kept (omega (arith, c.loop-place-test.true, count_at c.args.t.now c.args.kept.now)) (λ i p h. absurd (omega (arith, p, h))) c.loop-place.invariant))
 

@@ -32,7 +32,7 @@ loop-place-preserved c =
     let p = (goal.at.loop-place-preserved c).After-cmp in
     let xs = classes_at c.args.t.now c.args.kept.now in
     let pushed : c.copy.result ≡ get_or xs c.loop-place.place [] = c.copy.ensures ∙ c.class-class.ensures ∙ class_at c.args.t.now c.args.kept.now c.loop-place.place c.loop-place-test.true in
-    subst (λ (l : List (List (List ℤ))). AreMergedBelow xs c.args.made.now (c.loop-place.place + 1) c.args.next l) (sym c.in_ok-push-in-Less.ensures.items)
+    subst (λ (l : List (List (List ℤ))). AreMergedBelow xs c.args.made.now (c.loop-place.place + 1) c.args.next l) (sym {A = List (List (List ℤ))} c.in_ok-push-in-Less.ensures.items)
     (subst (λ (s : List (List ℤ)). AreMergedBelow xs c.args.made.now (c.loop-place.place + 1) c.args.next (c.loop-place.all.items ++ s ∷ [])) (sym pushed)
     (below_more xs c.args.made.now c.loop-place.place c.args.next c.loop-place.all.items c.requires.kept c.requires.made (here p) (compared p ∙ c.in-Less.is) c.loop-place.invariant))
 
