@@ -13,8 +13,7 @@ use Rattle.lt_geometry.proofs.WalkEnds.{not_vertex}
 use Rattle.lt_geometry.proofs.Regulators.{from_pair}
 use Rattle.lt_geometry.proofs.ExchangeLaws.{any_pair, one_outer}
 use Rattle.lt_flip.specs.Outers.{HasNoFacet, IsOuterOf}
-use Rattle.lt_flip.specs.Cells.{IsMovedFrom, AreCellPoints, HasCellOf, AreCellPointsBelow, AreAllCellPoints, points_of, AreCells}
-use Rattle.lt_flip.specs.declared.cell_list.Cell.{Cell}
+use Rattle.lt_flip.specs.Cells.{Cell, IsMovedFrom, AreCellPoints, HasCellOf, AreCellPointsBelow, AreAllCellPoints, points_of, AreCells}
 use Rattle.lt_triang.specs.Flat.{IsFlat}
 use Rattle.lt_flip.proofs.Collected.{IsFlippable, next_too}
 use Rattle.lt_flip.proofs.SortedPoints.{same_moved}
@@ -83,10 +82,10 @@ cell_count d t n ps h = omega (arith, h.moved.shape.count)
 
 -- ---- with their dependencies
 
-pub points_more : (cells : List Cell) (c : Cell) (all : List (List (List ℤ))) (i : ℕ) (s : List (List ℤ)) → i < length all → points_of cells ≡ take i all → c.points.items ≡ s → s ≡ get_or all i s → points_of (cells ++ c ∷ []) ≡ take (i + 1) all
-points_more cells c all i s l h is e = map-append (λ k. k.points.items) cells (c ∷ []) ∙ ap₂ (λ (x : List (List (List ℤ))) (y : List (List ℤ)). x ++ y ∷ []) h (is ∙ e) ∙ sym (take_more all i s l)
+pub points_more : (cells : List Cell) (c : Cell) (all : List (List (List ℤ))) (i : ℕ) (s : List (List ℤ)) → i < length all → points_of cells ≡ take i all → c.points ≡ s → s ≡ get_or all i s → points_of (cells ++ c ∷ []) ≡ take (i + 1) all
+points_more cells c all i s l h is e = map-append (λ k. k.points) cells (c ∷ []) ∙ ap₂ (λ (x : List (List (List ℤ))) (y : List (List ℤ)). x ++ y ∷ []) h (is ∙ e) ∙ sym (take_more all i s l)
 
-pub cells_there : (d : ℕ) (t : List (List (List ℤ))) (n : List ℤ) (cells : List Cell) (all given : List (List (List ℤ))) → points_of cells ≡ all → IsStrictlySortedBy simplex_cmp all → ((ps : List (List ℤ)) → Contains all ps ↔ Contains given ps) → AreAllCellPoints d t n given → All (λ c. IsFlat (length c.points.items - 2) c.points.items c.terms.items) cells → AreCells d t n cells
+pub cells_there : (d : ℕ) (t : List (List (List ℤ))) (n : List ℤ) (cells : List Cell) (all given : List (List (List ℤ))) → points_of cells ≡ all → IsStrictlySortedBy simplex_cmp all → ((ps : List (List ℤ)) → Contains all ps ↔ Contains given ps) → AreAllCellPoints d t n given → All (λ c. IsFlat (length c.points - 2) c.points c.terms) cells → AreCells d t n cells
 cells_there d t n cells all given is up same h flat = record {
   ascending = subst (IsStrictlySortedBy simplex_cmp) (sym is) up;
   members = members;
@@ -96,11 +95,11 @@ cells_there d t n cells all given is up same h flat = record {
     members : AreAllCellPoints d t n (points_of cells)
     members ps = (λ c. (h ps).0 ((same ps).0 (subst (λ (r : List (List (List ℤ))). Contains r ps) is c)), λ x. subst (λ (r : List (List (List ℤ))). Contains r ps) (sym is) ((same ps).1 ((h ps).1 x)))
 
-    at : (k : ℕ) (c : Cell) → k < length cells → IsFlat (length (get_or cells k c).points.items - 2) (get_or cells k c).points.items (get_or cells k c).terms.items → IsFlat d (get_or cells k c).points.items (get_or cells k c).terms.items
+    at : (k : ℕ) (c : Cell) → k < length cells → IsFlat (length (get_or cells k c).points - 2) (get_or cells k c).points (get_or cells k c).terms → IsFlat d (get_or cells k c).points (get_or cells k c).terms
     at k c l f =
-        let ps = (get_or cells k c).points.items in
-        let m : Contains (points_of cells) ps = mapped (λ z. z.points.items) cells (get_or cells k c) (Contains-get_or cells k c l) in
-        subst (λ (e : ℕ). IsFlat e ps (get_or cells k c).terms.items) (cell_count d t n ps ((members ps).0 m)) f
+        let ps = (get_or cells k c).points in
+        let m : Contains (points_of cells) ps = mapped (λ z. z.points) cells (get_or cells k c) (Contains-get_or cells k c l) in
+        subst (λ (e : ℕ). IsFlat e ps (get_or cells k c).terms) (cell_count d t n ps ((members ps).0 m)) f
       where
         mapped : (g : Cell → List (List ℤ)) (xs : List Cell) (x : Cell) → Contains xs x → Contains (map g xs) (g x)
         mapped g [] x m = Contains-none x m

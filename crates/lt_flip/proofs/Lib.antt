@@ -1,6 +1,7 @@
 mod Independent
 pub mod Near
 mod MadeClasses
+mod Merged
 mod Collected
 pub mod Wide
 mod SortedPoints

@@ -1,11 +1,9 @@
 -- The flip is a triangulation where no span is above the limit.
-use Rattle.std.proofs.Common.{◌≡◌, ℕ, ℤ, pos, ◌<◌, ◌≤◌, arith, ap, sym, ◌∙◌, subst, List, [], length, get_or, ◌↔◌}
+use Rattle.std.proofs.Common.{◌≡◌, ℕ, ℤ, pos, ◌<◌, ◌≤◌, arith, ap, sym, ◌∙◌, subst, List, [], length, get_or}
 use Rattle.std.specs.List.{Contains}
-use Rattle.std.specs.List.Sorted.{IsStrictlySortedBy}
 use Rattle.std.proofs.lemmas.List.{get_or_default}
 use Rattle.std.proofs.lemmas.List.Elements.{Contains-get_or}
 use Rattle.lt_model.specs.Limits.{class_span, span_limit}
-use Rattle.lt_model.specs.Order.{simplex_cmp}
 use Rattle.lt_model.specs.Vectors.{minus, scale}
 use Rattle.lt_model.specs.Simplices.{IsClass}
 use Rattle.lt_model.specs.Triangulations.{IsDelaunay}
@@ -15,8 +13,8 @@ use Rattle.lt_geometry.proofs.FlipOf.{flips_are_across}
 use Rattle.lt_triang.specs.Kept.{IsTriangulation, AreClasses, dimension_of, IsOfSomeForm}
 use Rattle.lt_triang.proofs.Gaps.{greatest_at_most}
 use Rattle.lt_triang.proofs.SomeForm.{some_form as of_some_form}
-use Rattle.lt_flip.specs.Flipped.{AreFlipped, IsFirstWide, IsWideFlip}
-use Rattle.lt_flip.proofs.Collected.{IsFlippable, flip_from}
+use Rattle.lt_flip.specs.Flipped.{IsFirstWide, IsWideFlip}
+use Rattle.lt_flip.proofs.Collected.{IsFlippable}
 
 pub member_class : (d : ℕ) (q : List ℤ) (t : List (List (List ℤ))) → IsDelaunay d q t → (s : List (List ℤ)) → Contains t s → IsClass d s
 member_class d q t k s m = ((k.members s).0 m).0
@@ -49,9 +47,8 @@ pub record IsSortedFlip (d : ℕ) (t : List (List (List ℤ))) (n : List ℤ) (c
   pub some_form : IsOfSomeForm classes
   pub dimension : dimension_of classes ≡ d
 
-pub sorted_flip : (d : ℕ) (a : List ℤ) (t : List (List (List ℤ))) (n : List ℤ) (all classes : List (List (List ℤ))) → IsFlippable d a t n → AreFlipped d t n all → IsStrictlySortedBy simplex_cmp classes → ((s : List (List ℤ)) → Contains classes s ↔ Contains all s) → IsSortedFlip d t n classes
-sorted_flip d a t n all classes k h up same =
-    let f : IsFlipOf d t n classes = flip_from d t n all classes h up same in
+pub sorted_flip : (d : ℕ) (a : List ℤ) (t : List (List (List ℤ))) (n : List ℤ) (classes : List (List (List ℤ))) → IsFlippable d a t n → IsFlipOf d t n classes → IsSortedFlip d t n classes
+sorted_flip d a t n classes k f =
     let q = some_form d a t classes n k f in
     record {
       flip = f;
@@ -68,10 +65,10 @@ narrow_flip d t n classes now e low high h is same each =
     (narrow_classes d h.form classes low high h.delaunay (subst (λ (l : List (List (List ℤ))). (i : ℕ) → i < length l → class_span (get_or l i []) ≤ span_limit d) is (subst (λ (m : ℕ). (i : ℕ) → i < length now → class_span (get_or now i []) ≤ span_limit m) same each)))
 
 -- the sorted classes are a triangulation, where no span is above the limit
-pub flip_triangulation : (d : ℕ) (t : List (List (List ℤ))) (n : List ℤ) (classes : List (List (List ℤ))) → IsSortedFlip d t n classes → IsStrictlySortedBy simplex_cmp classes → AreClasses (dimension_of classes) classes → IsTriangulation d classes
-flip_triangulation d t n classes h up given =
+pub flip_triangulation : (d : ℕ) (t : List (List (List ℤ))) (n : List ℤ) (classes : List (List (List ℤ))) → IsSortedFlip d t n classes → AreClasses (dimension_of classes) classes → IsTriangulation d classes
+flip_triangulation d t n classes h given =
     let k : AreClasses d classes = subst (λ (m : ℕ). AreClasses m classes) h.dimension given in
-    record { low = k.low; high = k.high; occupied = h.delaunay.occupied; ascending = up; classes = k.classes; closed = h.delaunay.closed; narrow = k.narrow }
+    record { low = k.low; high = k.high; occupied = h.delaunay.occupied; ascending = h.flip.ascending; classes = k.classes; closed = h.delaunay.closed; narrow = k.narrow }
 
 pub wide_flip : (d : ℕ) (t : List (List (List ℤ))) (n : List ℤ) (classes now : List (List (List ℤ))) (e i : ℕ) (found s : List (List ℤ)) (c : ℤ) → IsSortedFlip d t n classes → now ≡ classes → e ≡ d → IsFirstWide e now i → found ≡ get_or classes i found → s ≡ found → c ≡ pos (class_span found) → IsWideFlip d t n s c
 wide_flip d t n classes now e i found s c h is same first at s_is c_is =

@@ -9,7 +9,11 @@ use Rattle.lt_model.specs.Walls.{IsPair}
 use Rattle.lt_triang.specs.Flat.{IsFlat}
 use Rattle.lt_flip.specs.Ascending.{AreAscending}
 use Rattle.lt_flip.specs.Outers.{HasNoFacet}
-use Rattle.lt_flip.specs.declared.cell_list.Cell.{Cell}
+
+-- the points of a cell, and a number for each of them
+pub record Cell : Type 0 where
+  pub points : List (List ℤ)
+  pub terms : List ℤ
 
 -- they are a translate of the points
 pub record IsMovedFrom (d : ℕ) (points ps : List (List ℤ)) : Type 0 where
@@ -41,10 +45,10 @@ abbrev pub AreAllCellPoints : ℕ → List (List (List ℤ)) → List ℤ → Li
 AreAllCellPoints d t n all = (ps : List (List ℤ)) → Contains all ps ↔ AreCellPoints d t n ps
 
 abbrev pub points_of : List Cell → List (List (List ℤ))
-points_of cells = map (λ c. c.points.items) cells
+points_of cells = map (λ c. c.points) cells
 
 -- the cells of n, each once and in ascending order of their points, each with its dependency
 pub record AreCells (d : ℕ) (t : List (List (List ℤ))) (n : List ℤ) (cells : List Cell) : Type 0 where
   pub ascending : IsStrictlySortedBy simplex_cmp (points_of cells)
   pub members : AreAllCellPoints d t n (points_of cells)
-  pub dependencies : All (λ c. IsFlat d c.points.items c.terms.items) cells
+  pub dependencies : All (λ c. IsFlat d c.points c.terms) cells

@@ -1,19 +1,18 @@
 -- The classes of a flip, and the first of them whose span is above the limit.
-use Rattle.std.specs.Prelude.{ℕ, ℤ, pos, negsuc, ◌<◌, ◌≤◌, ◌≡◌, ◌⊎◌, ◌↔◌, List, [], length, get_or}
-use Rattle.std.specs.List.{Contains}
+use Rattle.std.specs.Prelude.{ℕ, ℤ, pos, negsuc, ◌<◌, ◌≤◌, ◌≡◌, ◌⊎◌, ◌++◌, List, [], length, get_or}
+use Rattle.std.specs.List.{Contains, All}
+use Rattle.std.specs.List.Sorted.{IsStrictlySortedBy}
 use Rattle.lt_model.specs.Limits.{class_span, span_limit}
+use Rattle.lt_model.specs.Order.{simplex_cmp}
 use Rattle.lt_model.specs.Walls.{IsAcross}
 use Rattle.lt_model.specs.Flips.{IsExchanged, IsFlipOf}
 use Rattle.lt_geometry.specs.Exchanges.{IsMadeFrom}
+use Rattle.lt_flip.specs.Merged.{classes_at}
 use Rattle.lt_flip.specs.Outers.{HasNoFacet, IsOuterOf}
 
 -- s is a class of the flip of t at n
 abbrev pub IsFlippedClass : ℕ → List (List (List ℤ)) → List ℤ → List (List ℤ) → Type 0
 IsFlippedClass d t n s = (Contains t s × (IsExchanged d t n (pos 1) s → ⊥)) ⊎ IsExchanged d t n (negsuc 0) s
-
--- the list holds the classes of the flip, and no others
-abbrev pub AreFlipped : ℕ → List (List (List ℤ)) → List ℤ → List (List (List ℤ)) → Type 0
-AreFlipped d t n all = (s : List (List ℤ)) → Contains all s ↔ IsFlippedClass d t n s
 
 -- the list holds all classes that are made from s and its outer vertex
 pub record HasMade (d : ℕ) (t : List (List (List ℤ))) (n : List ℤ) (s : List (List ℤ)) (all : List (List (List ℤ))) : Type 0 where
@@ -27,10 +26,13 @@ pub record HasMade (d : ℕ) (t : List (List (List ℤ))) (n : List ℤ) (s : Li
 abbrev pub HasFlipped : ℕ → List (List (List ℤ)) → List ℤ → List (List ℤ) → List (List (List ℤ)) → Type 0
 HasFlipped d t n s all = (HasNoFacet d t s n × Contains all s) ⊎ HasMade d t n s all
 
--- the list holds only classes of the flip, and what it makes of the first m members
-pub record AreFlippedBelow (d : ℕ) (t : List (List (List ℤ))) (n : List ℤ) (m : ℕ) (all : List (List (List ℤ))) : Type 0 where
-  pub only : (s : List (List ℤ)) → Contains all s → IsFlippedClass d t n s
-  pub each : (i : ℕ) → i < m → HasFlipped d t n (get_or t i []) all
+-- the kept classes, which stand at places of t below m and ascend, and the made ones are classes of the flip,
+-- and hold what it makes of the first m members
+pub record AreParts (d : ℕ) (t : List (List (List ℤ))) (n : List ℤ) (m : ℕ) (kept : List ℕ) (made : List (List (List ℤ))) : Type 0 where
+  pub places : All (λ k. k < m) kept
+  pub ascending : IsStrictlySortedBy simplex_cmp (classes_at t kept)
+  pub only : (s : List (List ℤ)) → Contains (classes_at t kept ++ made) s → IsFlippedClass d t n s
+  pub each : (i : ℕ) → i < m → HasFlipped d t n (get_or t i []) (classes_at t kept ++ made)
 
 -- the first class whose span is above the limit stands at place i
 pub record IsFirstWide (d : ℕ) (t : List (List (List ℤ))) (i : ℕ) : Type 0 where

@@ -35,6 +35,14 @@ pub struct Cell {
     pub terms: ArrayVec<i128, 8>,
 }
 
+impl Model for Cell {
+    ghost use Rattle.lt_flip.specs.Cells.{Cell as CellModel};
+
+    ghost Value = { CellModel };
+
+    ghost view = { λ c. record { points = c.points.items; terms = c.terms.items } };
+}
+
 /// The points of a cell.
 #[derive(Drop, PartialEq, Eq, PartialOrd, Ord)]
 struct CellPoints {
@@ -173,8 +181,8 @@ fn sorted_distinct(given: Vec<CellPoints>) -> Vec<CellPoints>
 
 /// The cell with these points.
 fn cell_of(points: &CellPoints) -> Cell
-    ensures points { result.points.items ≡ points.now }
-    ensures dependency { IsFlat (length points.now - 2) points.now result.terms.items }
+    ensures points { result.points ≡ points.now }
+    ensures dependency { IsFlat (length points.now - 2) points.now result.terms }
 {
     let d = points.dimension();
     let points = points.points.as_slice();

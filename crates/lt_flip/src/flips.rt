@@ -6,10 +6,11 @@ ghost use Rattle.lt_model.specs.Simplices.{IsClass};
 ghost use Rattle.lt_model.specs.Walls.{IsFacet, IsAcross};
 ghost use Rattle.lt_model.specs.Flips.{IsFlipOf};
 ghost use Rattle.lt_triang.specs.Kept.{IsTriangulation, dimension_of, IsOfSomeForm};
-ghost use Rattle.lt_flip.specs.Flipped.{AreFlipped, AreFlippedBelow, IsFirstWide, IsWideFlip};
+ghost use Rattle.lt_flip.specs.Flipped.{AreParts, IsFirstWide, IsWideFlip};
 ghost use Rattle.lt_flip.specs.declared.flips.FlipError.TheVariants.{Wide};
 
 use crate::exchanges::push_exchanged;
+use crate::merging::merged;
 use crate::outers::outer_of;
 use lt_lattice::Normal;
 use lt_model::{Memory, span_limit};
@@ -41,10 +42,11 @@ impl From<Memory> for FlipError {
     }
 }
 
-/// Appends what the flip makes of the class at place `class`: the class itself where none of its facets has the regulator, and else
-/// the classes that the flip puts in.
+/// Appends what the flip makes of the class at place `class`: its place to those that are kept where none of its facets has the
+/// regulator, and else the classes that the flip puts in to those that are made.
 fn push_flipped(
-    all: &mut Vec<Class>,
+    kept: &mut Vec<usize>,
+    made: &mut Vec<Class>,
     t: &Triangulation,
     facet: &Normal,
     class: usize,
@@ -52,32 +54,43 @@ fn push_flipped(
     requires delaunay { IsOfSomeForm t.now }
     requires facet { IsFacet (dimension_of t.now) t.now facet.now }
     requires class { class < length t.now }
-    requires from { AreFlippedBelow (dimension_of t.now) t.now facet.now class all.old.items }
-    ensures { IfOk result (λ _. AreFlippedBelow (dimension_of t.now) t.now facet.now (suc class) all.new.items) }
+    requires from { AreParts (dimension_of t.now) t.now facet.now class kept.old.items made.old.items }
+    ensures { IfOk result (λ _. AreParts (dimension_of t.now) t.now facet.now (suc class)
+        kept.new.items made.new.items) }
 {
     let d = usize::from(t.dimension());
-    let simplex = t.class(class);
     match outer_of(t, class, facet) {
-        Some(outer) => push_exchanged(all, d, simplex.vertices(), &outer.vertex, &outer.expression),
-        None => match all.push(simplex.copy()) {
+        Some(outer) => {
+            let simplex = t.class(class);
+            push_exchanged(
+                made,
+                d,
+                simplex.vertices(),
+                &outer.vertex,
+                &outer.expression,
+            )
+        }
+        None => match kept.push(class) {
             Ok(()) => Ok(()),
             Err(_) => Err(Memory),
         },
     }
 }
 
-/// The classes of the flip, in the order of the classes that they come from.
+/// The classes of the flip, in ascending order. Only the few that are made are sorted, since the kept ones are.
 fn flipped(alloc: Global, t: &Triangulation, facet: &Normal) -> Result<Vec<Class>, Memory>
     requires low { 2 ≤ dimension_of t.now }
     requires delaunay { IsOfSomeForm t.now }
     requires facet { IsFacet (dimension_of t.now) t.now facet.now }
-    ensures { IfOk result (λ all. AreFlipped (dimension_of t.now) t.now facet.now all.items) }
+    ensures { IfOk result (λ all. IsFlipOf (dimension_of t.now) t.now facet.now all.items) }
 {
-    let mut all = Vec::new(alloc);
+    let mut kept = Vec::new(alloc);
+    let mut made = Vec::new(alloc);
     for class in 0..t.len() {
-        push_flipped(&mut all, t, facet, class)?;
+        push_flipped(&mut kept, &mut made, t, facet, class)?;
     }
-    Ok(all)
+    let made = sorted_distinct(made);
+    merged(alloc, t, kept.as_slice(), made.as_slice())
 }
 
 /// The place of the first class whose span is above the limit.
@@ -122,7 +135,7 @@ pub fn flipped_classes(
         IsWideFlip (dimension_of t.now) t.now facet.now class wide }
 {
     let d = t.dimension();
-    let classes = sorted_distinct(flipped(alloc, t, facet)?);
+    let classes = flipped(alloc, t, facet)?;
     match first_wide(d, classes.as_slice()) {
         Some(i) => Err(wide(&classes[i])),
         None => Ok(classes),

@@ -4,6 +4,7 @@
 mod cell_list;
 mod exchanges;
 mod flips;
+mod merging;
 mod outers;
 mod terms;
 

@@ -5,8 +5,7 @@ use Rattle.std.proofs.lemmas.List.Elements.{All-push}
 use Rattle.lt_triang.specs.Flat.{IsFlat}
 use Rattle.lt_triang.specs.Kept.{dimension_of}
 use Rattle.lt_triang.proofs.Expressed.{dimension_is}
-use Rattle.lt_flip.specs.declared.cell_list.Cell.{Cell}
-use Rattle.lt_flip.specs.Cells.{points_of}
+use Rattle.lt_flip.specs.Cells.{Cell, points_of}
 use Rattle.lt_flip.proofs.CellsBelow.{points_more, cells_there}
 use Rattle.lt_flip.proofs.cell_list.cells.Goals as goal
 
@@ -18,9 +17,9 @@ all_cell_points-requires-clause-low c =
 pub loop-i-preserved : goal.loop-i-preserved
 loop-i-preserved c = record {
   points = subst (λ (l : List Cell). points_of l ≡ take (c.loop-i.i + 1) c.sorted_distinct-all.result.items) (sym c.in_ok-push.ensures.items) (points_more c.loop-i.cells.items c.cell_of.result c.sorted_distinct-all.result.items c.loop-i.i c.index.result.now (omega (arith, c.loop-i-test.true, c.len-i-end.ensures)) c.loop-i.invariant.points c.cell_of.ensures.points c.index.ensures);
-  dependencies = subst (λ (l : List Cell). All (λ k. IsFlat (length k.points.items - 2) k.points.items k.terms.items) l) (sym c.in_ok-push.ensures.items)
-      (All-push (λ k. IsFlat (length k.points.items - 2) k.points.items k.terms.items) c.loop-i.cells.items c.cell_of.result c.loop-i.invariant.dependencies
-      (subst (λ (l : List (List ℤ)). IsFlat (length l - 2) l c.cell_of.result.terms.items) (sym c.cell_of.ensures.points) c.cell_of.ensures.dependency));
+  dependencies = subst (λ (l : List Cell). All (λ k. IsFlat (length k.points - 2) k.points k.terms) l) (sym c.in_ok-push.ensures.items)
+      (All-push (λ k. IsFlat (length k.points - 2) k.points k.terms) c.loop-i.cells.items c.cell_of.result c.loop-i.invariant.dependencies
+      (subst (λ (l : List (List ℤ)). IsFlat (length l - 2) l c.cell_of.result.terms) (sym c.cell_of.ensures.points) c.cell_of.ensures.dependency));
 }
 
 pub returns : goal.returns

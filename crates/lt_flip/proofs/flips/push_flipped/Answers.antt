@@ -1,4 +1,4 @@
-use Rattle.std.proofs.Common.{◌≡◌, ℕ, ℤ, suc, ◌∷◌, ◌++◌, [], List, ap, sym, ◌∙◌, subst, arith, get_or, ◌*◌, ◌↔◌, ◌⊎◌}
+use Rattle.std.proofs.Common.{◌≡◌, ℕ, ℤ, suc, ◌∷◌, [], List, sym, ◌∙◌, subst, arith, get_or, ◌*◌, ◌↔◌, ◌⊎◌}
 use Rattle.std.specs.List.{Contains}
 use Rattle.std.proofs.lemmas.List.Elements.{Contains-get_or}
 use Rattle.std.proofs.lemmas.Result.{IfOk-weaker}
@@ -8,7 +8,7 @@ use Rattle.lt_triang.specs.Bounds.{AreNear}
 use Rattle.lt_triang.specs.Kept.{dimension_of}
 use Rattle.lt_triang.proofs.Expressed.{dimension_is}
 use Rattle.lt_geometry.specs.Exchanges.{IsMadeFrom}
-use Rattle.lt_flip.specs.Flipped.{AreFlippedBelow}
+use Rattle.lt_flip.specs.Flipped.{AreParts}
 use Rattle.lt_flip.proofs.Collected.{IsFlippable, kept_more, made_there}
 use Rattle.lt_flip.proofs.flips.push_flipped.Goals as goal
 
@@ -37,17 +37,15 @@ returns-in-Some c =
     let d : c.dimension.result ≡ dimension_of t = dimension_is c.dimension.result t c.dimension.ensures in
     let k : IsFlippable (dimension_of t) c.requires.delaunay.0 t c.args.facet.now = record { two = omega (arith, d, c.dimension.ensures.low); delaunay = c.requires.delaunay.1; facet = c.requires.facet } in
     let o = c.in-Some.outer in
-    IfOk-weaker c.push_exchanged.result (λ x. (r : List (List ℤ)) → Contains c.push_exchanged.new.all.items r ↔ (Contains c.args.all.now.items r ⊎ ((k : ℕ) × IsMadeFrom c.from-d.result c.vertices.result.now o.vertex o.expression.coefficients k r)))
-    (λ x. AreFlippedBelow (dimension_of t) t c.args.facet.now (suc c.args.class) c.push_exchanged.new.all.items)
-    (λ x is. made_there (dimension_of t) c.requires.delaunay.0 t c.args.facet.now c.args.class c.args.all.now.items c.push_exchanged.new.all.items o.vertex o.expression.scale o.expression.coefficients c.from-d.result c.vertices.result.now k c.requires.class c.requires.from c.in-Some.ensures (c.from-d.ensures ∙ d) (c.vertices.ensures ∙ c.class-simplex.ensures) is)
+    IfOk-weaker c.push_exchanged.result (λ x. (r : List (List ℤ)) → Contains c.push_exchanged.new.all.items r ↔ (Contains c.args.made.now.items r ⊎ ((k : ℕ) × IsMadeFrom c.from-d.result c.vertices.result.now o.vertex o.expression.coefficients k r)))
+    (λ x. AreParts (dimension_of t) t c.args.facet.now (suc c.args.class) c.args.kept.now.items c.push_exchanged.new.all.items)
+    (λ x is. made_there (dimension_of t) c.requires.delaunay.0 t c.args.facet.now c.args.class c.args.kept.now.items c.args.made.now.items c.push_exchanged.new.all.items o.vertex o.expression.scale o.expression.coefficients c.from-d.result c.vertices.result.now k c.requires.class c.requires.from c.in-Some.ensures (c.from-d.ensures ∙ d) (c.vertices.ensures ∙ c.class-simplex.ensures) is)
     c.push_exchanged.ensures
 
 pub returns-in-Ok : goal.returns-in-Ok
 returns-in-Ok c =
     let t = c.args.t.now in
-    let s = get_or t c.args.class [] in
     let d : c.dimension.result ≡ dimension_of t = dimension_is c.dimension.result t c.dimension.ensures in
     let k : IsFlippable (dimension_of t) c.requires.delaunay.0 t c.args.facet.now = record { two = omega (arith, d, c.dimension.ensures.low); delaunay = c.requires.delaunay.1; facet = c.requires.facet } in
-    let is : c.push.new.self.items ≡ c.args.all.now.items ++ s ∷ [] = c.in-Ok.ensures.items ∙ ap (λ (l : List (List ℤ)). c.args.all.now.items ++ l ∷ []) (c.copy.ensures ∙ c.class-simplex.ensures) in
-    subst (λ (l : List (List (List ℤ))). AreFlippedBelow (dimension_of t) t c.args.facet.now (suc c.args.class) l) (sym is)
-    (kept_more (dimension_of t) c.requires.delaunay.0 t c.args.facet.now c.args.class c.args.all.now.items k c.requires.class c.requires.from c.in-None.ensures)
+    subst (λ (l : List ℕ). AreParts (dimension_of t) t c.args.facet.now (suc c.args.class) l c.args.made.now.items) (sym c.in-Ok.ensures.items)
+    (kept_more (dimension_of t) c.requires.delaunay.0 t c.args.facet.now c.args.class c.args.kept.now.items c.args.made.now.items k c.requires.class c.requires.from c.in-None.ensures)
