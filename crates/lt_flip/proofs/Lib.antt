@@ -7,3 +7,4 @@ pub mod Wide
 mod SortedPoints
 mod CellsBelow
 mod Dependencies
+pub mod OneAcross

@@ -158,6 +158,6 @@ pub fn flip(alloc: Global, t: &Triangulation, facet: &Normal) -> Result<Triangul
         IsWideFlip (dimension_of t.now) t.now facet.now class wide }
 {
     let classes = flipped_classes(alloc, t, facet)?;
-    let across = Triangulation::of_closed(classes)?;
+    let across = t.carried(classes)?;
     Ok(across)
 }

@@ -1,6 +1,6 @@
 //! Flips and cells.
 
-ghost use Rattle.lt_triang.specs.Kept.{IsOfSomeForm};
+ghost use Rattle.lt_triang.specs.Kept.{IsTriangulation, IsOfSomeForm, dimension_of};
 ghost use Rattle.std.specs.Prelude.{pos, ◌≤ℤ◌};
 
 use crate::cones::facet;
@@ -8,7 +8,8 @@ use crate::matching::{image_by, is_class, principal_of};
 use lt_flip::{FlipError, cells, flip, flipped_classes};
 use lt_lattice::{Matrix, Normal, Point};
 use lt_match::match_types;
-use lt_triang::Triangulation;
+use lt_model::Memory;
+use lt_triang::{Class, Triangulation};
 use std::alloc::Global;
 use std::process::Abort;
 
@@ -124,6 +125,30 @@ fn the_classes_of_a_flip_make_it(rt: HostRuntime) {
     match flipped_classes(rt.alloc(), &t, &n) {
         Ok(classes) => match (Triangulation::of_closed(classes), flip(rt.alloc(), &t, &n)) {
             (Ok(made), Ok(across)) => assert!(rt; made == across),
+            _ => assert!(rt; false),
+        },
+        Err(_) => assert!(rt; false),
+    }
+}
+
+/// The triangulation of the classes, with the neighbours that it has in common with `t` taken over.
+fn carried(t: &Triangulation, classes: Vec<Class>) -> Result<Triangulation, Memory>
+    requires triangulation { IsTriangulation (dimension_of t.now) classes.items }
+    requires delaunay { IsOfSomeForm classes.items }
+{
+    t.carried(classes)
+}
+
+#[test]
+fn the_classes_of_a_flip_in_space_make_it_with_the_old_neighbours(rt: HostRuntime) {
+    let t = principal_of(&rt, rt.alloc(), 3);
+    let n = facet(&rt, rt.alloc(), &t, 0);
+    match flipped_classes(rt.alloc(), &t, &n) {
+        Ok(classes) => match (carried(&t, classes), flip(rt.alloc(), &t, &n)) {
+            (Ok(made), Ok(across)) => {
+                assert_eq!(rt; made.len(), 6);
+                assert!(rt; made == across);
+            }
             _ => assert!(rt; false),
         },
         Err(_) => assert!(rt; false),

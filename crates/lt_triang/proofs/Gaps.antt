@@ -1,14 +1,13 @@
 -- A span bounds the differences of vertices.
-use Rattle.std.proofs.Common.{◌≡◌, ℕ, zero, suc, ℤ, pos, negsuc, ◌+ℤ◌, ◌-ℤ◌, ◌*ℤ◌, drop, ◌<◌, ◌≤◌, ◌+◌, ◌*◌, ◌^◌, Bool, true, false, cond, refl, ap, arith, sym, ◌∙◌, subst, List, [], ◌∷◌, length, map, get_or, nat_abs, max}
+use Rattle.std.proofs.Common.{◌≡◌, ℕ, zero, suc, ℤ, pos, negsuc, ◌+ℤ◌, ◌*ℤ◌, drop, ◌<◌, ◌≤◌, ◌+◌, ◌*◌, ◌^◌, Bool, true, false, cond, refl, ap, arith, subst, List, [], ◌∷◌, length, map, get_or, nat_abs, max}
 use Rattle.std.proofs.lemmas.Int.{ints}
 use Rattle.std.proofs.lemmas.List.{drop_more, drop_all}
-use Rattle.lt_model.proofs.Squares.{length-scale, length-plus}
 use Rattle.std.specs.Prelude.{nat_le}
 use Rattle.std.specs.List.{All, AllByRecursion, Contains}
 use Rattle.std.proofs.lemmas.List.Elements.{Contains-get_or, All-contains}
 use Rattle.lt_model.proofs.Sets.{Contains-head, Contains-tail, Contains-map}
 use Rattle.lt_model.specs.Limits.{greatest, gap, class_span, span, span_limit}
-use Rattle.lt_model.specs.Vectors.{minus, scale, zeros}
+use Rattle.lt_model.specs.Vectors.{minus, zeros}
 use Rattle.lt_model.specs.Simplices.{AllOfDimension, IsClass}
 use Rattle.lt_lattice.specs.Ranges.{IsWithin}
 use Rattle.lt_triang.specs.Bounds.{AreWithin, AreNear}

@@ -16,6 +16,7 @@ pub mod SomeForm
 pub mod Coded
 pub mod Indices
 pub mod Rowed
+pub mod Carried
 pub mod Itself
 pub mod Walled
 pub mod Mirrored

@@ -35,7 +35,7 @@ wall_made d t s i m j p v c b w h lm lj f o of =
       numbers = of.numbers;
     }
 
-pub row_pushed : (P : ℕ → Wall → Type 0) (xs : List Wall) (i : ℕ) (x : Wall) → length xs ≡ i → ((k : ℕ) (e : Wall) → k < i → P k (get_or xs k e)) → P i x → (k : ℕ) (e : Wall) → k < i + 1 → P k (get_or (xs ++ x ∷ []) k e)
+pub row_pushed : {X : Type 0} (P : ℕ → X → Type 0) (xs : List X) (i : ℕ) (x : X) → length xs ≡ i → ((k : ℕ) (e : X) → k < i → P k (get_or xs k e)) → P i x → (k : ℕ) (e : X) → k < i + 1 → P k (get_or (xs ++ x ∷ []) k e)
 row_pushed P xs i x l each here k e p =
     elim (cases_lt k i) [
       | inl h ↦ subst (P k) (sym (get_or_append_left xs (x ∷ []) e k (omega (arith, h, l)))) (each k e h)

@@ -31,6 +31,12 @@ pub record IsFirstVertex (d : ℕ) (s : List (List ℤ)) (i : ℕ) (next : List 
   pub facing : IsFacing d s i next p j
   pub before : (k : ℕ) → k < j → IsNotFacing d s i next k
 
+-- across a facet of a member lies one member at most
+abbrev pub HasOneAcross : ℕ → List (List (List ℤ)) → Type 0
+HasOneAcross d t =
+    (s : List (List ℤ)) (i m n : ℕ) (p q : List ℤ) (j k : ℕ) → Contains t s → i < suc d → m < length t → n < length t → j < suc d → k < suc d →
+    IsFacing d s i (get_or t m []) p j → IsFacing d s i (get_or t n []) q k → m ≡ n
+
 -- no member, at no vertex, lies across the facet
 abbrev pub IsOpen : ℕ → List (List (List ℤ)) → List (List ℤ) → ℕ → Type 0
 IsOpen d t s i = (n j : ℕ) → n < length t → j < suc d → IsNotFacing d s i (get_or t n []) j

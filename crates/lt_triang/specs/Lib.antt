@@ -6,3 +6,4 @@ pub mod Kept
 pub mod Codes
 pub mod Indexed
 pub mod Walled
+pub mod Carried

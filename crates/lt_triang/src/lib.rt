@@ -1,6 +1,7 @@
 //! Classes of simplices, triangulations, and the neighbours of their facets.
 #![tactic(auto)]
 
+mod carrying;
 mod classes;
 mod codes;
 mod dependencies;

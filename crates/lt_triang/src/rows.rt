@@ -33,6 +33,13 @@ impl Model for Row {
 }
 
 impl Row {
+    /// The row of these neighbours, one for each facet.
+    pub fn of(facets: Vec<Wall>) -> Row
+        ensures { result ≡ facets.items }
+    {
+        Row { facets }
+    }
+
     /// The neighbour at facet `i`.
     pub fn at(&self, i: usize) -> &Wall
         requires { i < length self.now }
@@ -54,7 +61,7 @@ impl Row {
 }
 
 /// The neighbours of the class at place `n`, or the first of its facets that is open. `rows` are those of the classes before it.
-fn row_of(
+pub fn row_of(
     alloc: Global,
     d: usize,
     classes: &[Class],

@@ -10,11 +10,12 @@ ghost use Rattle.lt_model.specs.Cones.{AreBelow};
 ghost use Rattle.lt_model.specs.Vectors.{IsPrimitive};
 ghost use Rattle.lt_triang.specs.Indexed.{IsKept};
 ghost use Rattle.lt_triang.specs.Walled.{IsWall};
-ghost use Rattle.lt_triang.specs.Across.{IsFirstAcross, IsOpenAnswer, IsOuterVertex, AreOuterNumbers};
+ghost use Rattle.lt_triang.specs.Across.{HasOneAcross, IsFirstAcross, IsOpenAnswer, IsOuterVertex, AreOuterNumbers};
 ghost use Rattle.lt_triang.specs.Kept.{IsTriangulation, AreClasses, dimension_of};
 ghost use Rattle.lt_lattice.specs.Ranges.{IsWithin};
 ghost use Rattle.lt_triang.specs.declared.errors.TriangError.TheVariants.{OpenFacet};
 
+use crate::carrying::rows_from;
 use crate::classes::Class;
 use crate::errors::TriangError;
 use crate::neighbours::{Across, Neighbour, Outer, member, shift_of, vertex_moved};
@@ -126,6 +127,19 @@ impl Triangulation {
             Err(TriangError::Memory) => Err(Memory),
             Err(TriangError::OpenFacet { class: _, facet: _ }) => unreachable!(),
         }
+    }
+
+    /// The triangulation of classes that ascend and are known to be closed under facets, with one member at most across each. Walls between
+    /// classes that stand here too are taken over.
+    pub fn carried(&self, classes: Vec<Class>) -> Result<Triangulation, Memory>
+        requires triangulation { IsTriangulation (dimension_of self.now) classes.items }
+        requires one { HasOneAcross (dimension_of self.now) classes.items }
+        ensures { IfOk result (λ t. t ≡ classes.items) }
+    {
+        let d = usize::from(self.dimension());
+        let alloc = *classes.allocator();
+        let rows = rows_from(alloc, d, classes.as_slice(), &self.classes, &self.rows)?;
+        Ok(Triangulation { classes, rows })
     }
 
     /// The number of coordinates of a vertex.

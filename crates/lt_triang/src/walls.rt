@@ -1,6 +1,7 @@
 //! Neighbours as they are kept, in little room.
 
 ghost use Rattle.std.specs.Prelude.{◌≡◌, ◌≤◌, ◌∷◌, length, IfOk, IfSome};
+ghost use Rattle.lt_triang.specs.Carried.{IsMoved};
 ghost use Rattle.lt_triang.specs.Walled.{AreKept, IsWallOf, HasPlaces, IsMirrored};
 
 use crate::expressions::Expression;
@@ -77,6 +78,23 @@ impl Wall {
                 numbers,
             }),
             _ => None,
+        }
+    }
+
+    /// The same wall where the neighbour stands at place `class`. A place that doesn't fit is refused as memory is.
+    pub fn moved(&self, class: usize) -> Result<Wall, Memory>
+        ensures { IfOk result (IsMoved self.now class) }
+    {
+        match u32::try_from(class) {
+            Ok(class) => {
+                let wall = self.copy();
+                Ok(Wall {
+                    class,
+                    vertex: wall.vertex,
+                    numbers: wall.numbers,
+                })
+            }
+            Err(_) => Err(Memory),
         }
     }
 

@@ -1,7 +1,13 @@
 use Rattle.std.proofs.Common.{◌≡◌, sym, ap, ◌∙◌}
 use Rattle.lt_triang.specs.Kept.{IsTriangulation, dimension_of}
 use Rattle.lt_triang.proofs.Expressed.{dimension_is}
+use Rattle.lt_flip.proofs.OneAcross.{one_across_of_some_form}
 use Rattle.lt_flip.proofs.flips.flip.Goals as goal
+
+pub carried-requires-clause-one : goal.carried-requires-clause-one
+carried-requires-clause-one c =
+    one_across_of_some_form (dimension_of c.args.t.now) c.in_ok-classes.classes.items
+    c.in_ok-classes.ensures.triangulation c.in_ok-classes.ensures.delaunay
 
 pub returns-clause-dimension : goal.returns-clause-dimension
 returns-clause-dimension c =
